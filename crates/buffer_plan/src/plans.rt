@@ -190,6 +190,13 @@ impl Plan {
         reads_by(&self.reads, g)
     }
 
+    /// All live reads, by the image that reads, then by the image that is read, then by row, then by column.
+    pub fn live_reads(&self) -> &[LiveRead]
+        ensures { result.now ≡ self.now.system.stencils.reads }
+    {
+        &self.reads
+    }
+
     /// The width of a kept image's type, in bits.
     pub fn width(&self, g: u32) -> u8
         requires { IsKept self.now.system.stencils.images g }

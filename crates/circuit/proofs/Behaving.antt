@@ -1,14 +1,16 @@
 -- What the module of a circuit does, once all its images are built.
-use Rattle.std.proofs.Common.{◌≡◌, ◌⊎◌, ℕ, suc, ◌+◌, ◌-◌, ◌*◌, ◌<◌, ◌≤◌, Bool, false, List, [], ◌∷◌, length, map, Some, refl, sym, ap, subst, ◌∙◌, inl, inr, arith, take, length-append}
-use Rattle.std.specs.Prelude.{IsTrue, Contains, slice_get, slice_index, slice_index_or, unwrap_or}
+use Rattle.std.proofs.Common.{◌≡◌, ◌⊎◌, ℕ, suc, ◌+◌, ◌-◌, ◌*◌, ◌<◌, ◌≤◌, Bool, false, List, [], ◌∷◌, ◌++◌, length, map, Some, refl, sym, ap, subst, ◌∙◌, inl, inr, arith, take, length-append}
+use Rattle.std.specs.Prelude.{pos, IsTrue, Contains, slice_get, slice_index, slice_index_or, unwrap_or}
 use Rattle.std.specs.Option.{option_map}
+use Rattle.std.proofs.lemmas.Int.{ints}
 use Rattle.std.proofs.lemmas.List.Elements.{All-weaker, All-contains}
 use Rattle.std.proofs.lemmas.Bool.{cases_lt}
 use Rattle.std.proofs.lemmas.Option.{slice_get_within, slice_get-get_or}
 use Rattle.std.proofs.lemmas.List.{get_or-map, length-map, take_all}
 use Rattle.dk_base.specs.declared.stencils.Image.{Image}
+use Rattle.dk_base.specs.declared.stencils.LiveRead.{LiveRead}
 use Rattle.dk_base.specs.Types.{width_of as bits_of_type}
-use Rattle.dk_base.specs.Stencils.{place}
+use Rattle.dk_base.specs.Stencils.{IsRead, place}
 use Rattle.dk_base.proofs.Orders.{number_at, at_place, place_at, kept_at}
 use Rattle.raster_delay.specs.Systems.{depth}
 use Rattle.wiring.specs.declared.right.Atom.TheVariants as atom
@@ -20,7 +22,7 @@ use Rattle.wiring.specs.declared.netlist.Update.{Update}
 use Rattle.wiring.specs.declared.netlist.Update.TheVariants.{Set, Put}
 use Rattle.wiring.specs.declared.netlist.Holder.{Holder}
 use Rattle.wiring.specs.declared.netlist.Holder.TheVariants.{OfNet, OfArray}
-use Rattle.wiring.specs.Netlist.{Netlist, din_net, valid_net, dout_net, depth as array_depth}
+use Rattle.wiring.specs.Netlist.{Netlist, net_width, din_net, valid_net, dout_net, depth as array_depth}
 use Rattle.wiring.specs.BufferBits.{array_bits, chosen_bits, atom_reads, IsBufferBits}
 use Rattle.wiring.specs.Rules.{UpdateIsSound}
 use Rattle.wiring.specs.Snapshot.{Contents, Snapshot, net_value}
@@ -42,33 +44,34 @@ use Rattle.net_build.proofs.Finished.{output_shown}
 use Rattle.net_build.proofs.Standing.{held_same}
 use Rattle.pointwise_ir.specs.Programs.{Program}
 use Rattle.pointwise_ir.specs.Stencils.{AreStencilsOf}
-use Rattle.buffer_plan.specs.Plans.{Plan, IsPlan, place_in, ages_of, delay_of, width_of, depth_of, latency_of, bits_of}
+use Rattle.buffer_plan.specs.Plans.{Plan, IsPlan, place_in, ages_of, read_age, delay_of, width_of, depth_of, latency_of, bits_of}
 use Rattle.buffer_plan.proofs.Aged.{are_ages}
 use Rattle.line_buffer.specs.Streams.{BufferIsRight}
 use Rattle.line_buffer.specs.Places.{word_at}
 use Rattle.line_buffer.specs.Chains.{AreCopies}
 use Rattle.line_buffer.proofs.Ages.{age_within}
 use Rattle.circuit.specs.Rounds.{Rounds, AreRounds, Feeds, type_at, pixel_bits, pixel_count}
-use Rattle.circuit.specs.Taps.{Keeps, taps_at}
+use Rattle.circuit.specs.Taps.{Keeps, taps_at, HaveTaps, IsTapOf, AreTapsOf}
 use Rattle.line_buffer.specs.Fills.{HasRight, AreFilled}
 use Rattle.line_buffer.proofs.Filling.{fills_more, index_control_more}
 use Rattle.circuit.specs.Forms.{Shapes, Form, HasProperty, shapes_of, first_array, end_array}
 use Rattle.edge_select.specs.declared.frame_tests.FrameTests.{FrameTests}
 use Rattle.circuit.specs.Images.{IsLine, AreBuilt, AreBuiltWith, words_in, reads_directly, source_of, direct_source}
 use Rattle.circuit.proofs.Keeping.{adds_for}
-use Rattle.circuit.specs.Behaviour.{net_of, is_valid, ShowsPixels, Behaves, HasPorts}
+use Rattle.circuit.specs.Behaviour.{net_of, is_valid, ShowsPixels, read_net, AreReadNets, Behaves, HasPorts}
 use Rattle.circuit.specs.Nets.{AreNetsOf, IsApart, kept_source_of}
 use Rattle.circuit.specs.Modules.{CopyLongArrays, AddsCopies, HasBits, ReadsOnly, IsModuleOf}
 use Rattle.circuit.specs.Ends.{output_in, CanEnd, IsClosed}
 use Rattle.circuit.proofs.Streamed.{Line, Streams, AreImages}
 use Rattle.circuit.proofs.Horizons.{horizon}
-use Rattle.circuit.proofs.Feeding.{feeds_earlier, input_right, whole_nets}
+use Rattle.circuit.proofs.Feeding.{feeds_earlier, input_right, whole_nets, whole_taps}
 use Rattle.circuit.proofs.Bits.{shapes_bits}
 use Rattle.circuit.proofs.Sourced.{source_kept, control_kept, own_kept, control_direct, but_direct, copies_last}
 use Rattle.circuit.proofs.Building.{place_of_entry, entry_kept, built_lasts}
 use Rattle.circuit.proofs.Typing.{entry_or, plan_width}
 use Rattle.circuit.proofs.Forming.{plan_depth, plan_wide}
 use Rattle.circuit.proofs.Netted.{shows_only, output_right, some_array, put_made, first_stores, later_stores, long_copied}
+use Rattle.wiring.proofs.Search.{at_push}
 use Rattle.circuit.proofs.Leaving.{flat_at}
 
 -- the buffer bits are those of the arrays and of the copies that a din reaches, where no other register is reached
@@ -116,6 +119,33 @@ line_at b p plan form nets taps built g kept =
     let none : Image = record { number = 0; width = 0 } in
     let number : (slice_index_or images (place_in plan g) none).number ≡ g = at_place images g none kept in
     subst (λ (j : ℕ). IsLine b p plan form built.copies taps j (net_of plan nets g)) number (built.line (place_in plan g) (slice_index_or images (place_in plan g) none) kept (slice_get-get_or images (place_in plan g) none kept))
+
+-- each kept image has its taps
+pub have_taps : (b : Netlist) (p : Program) (plan : Plan) (form : Form) (nets : List Net) (taps : List (List Net)) → AreBuilt b p plan form (length plan.system.stencils.images) nets taps → HaveTaps plan taps
+have_taps b p plan form nets taps built g kept =
+    (subst (λ (n : ℕ). place_in plan g < n) (sym built.tap_count) kept, (line_at b p plan form nets taps built g kept).buffer.one_each)
+
+-- the image of a live read has its taps
+pub tap_room : (plan : Plan) (taps : List (List Net)) (items : List LiveRead) (k : ℕ) (d : LiveRead) → IsPlan plan → HaveTaps plan taps → items ≡ plan.system.stencils.reads → k < length items →
+    (place_in plan (slice_index_or items k d).g < length taps) × (length (taps_at plan taps (slice_index_or items k d).g) ≡ length (ages_of plan (slice_index_or items k d).g))
+tap_room plan taps items k d is have same lt =
+    let at : k < length plan.system.stencils.reads = subst (λ (xs : List LiveRead). k < length xs) same lt in
+    subst (λ (xs : List LiveRead). (place_in plan (slice_index_or xs k d).g < length taps) × (length (taps_at plan taps (slice_index_or xs k d).g) ≡ length (ages_of plan (slice_index_or xs k d).g))) (sym same)
+    (have (slice_index_or plan.system.stencils.reads k d).g (is.system.stencils.reads.between k d at).source_kept)
+
+-- one tap more
+pub next_tap : (plan : Plan) (taps : List (List Net)) (items : List LiveRead) (k : ℕ) (d : LiveRead) (reads : List Net) (tap : Net) → AreTapsOf plan taps k reads → items ≡ plan.system.stencils.reads → k < length items → IsTapOf plan taps (slice_index_or items k d) tap →
+    AreTapsOf plan taps (suc k) (reads ++ tap ∷ [])
+next_tap plan taps items k d reads tap are same lt is = record {
+  one_each = length-append reads (tap ∷ []) ∙ (let e = are.one_each in omega (arith, e));
+  each = λ j r t at on. elim (at_push reads tap t j on) as (λ _. IsTapOf plan taps r t) [
+    | inl old ↦ are.each j r t at old
+    | inr new ↦
+        let here : j ≡ k = new.0 ∙ are.one_each in
+        let is_read : slice_index_or items k d ≡ r = subst (λ (xs : List LiveRead). slice_index_or xs k d ≡ r) (sym same) (entry_or plan.system.stencils.reads k r d (subst (λ (i : ℕ). slice_get plan.system.stencils.reads i ≡ Some r) here at)) in
+        subst (λ (z : Net). IsTapOf plan taps r z) new.1 (subst (λ (q : LiveRead). IsTapOf plan taps q tap) is_read is)
+  ];
+}
 
 -- the images of outputs are kept
 output_kept : (plan : Plan) (k : ℕ) → IsPlan plan → k < length plan.system.stencils.outputs → Keeps plan (output_in plan k)
@@ -375,6 +405,45 @@ module _ (m b : Netlist) (p : Program) (plan : Plan) (form : Form) (nets : List 
     stored = λ g kept deep. first_stores m form plan copies g (net_of plan nets g) (filled g kept) closed.whole.rules.updated (some_there g kept deep);
     passed_on = λ g x kept low high. later_stores m form plan copies g (net_of plan nets g) (filled g kept) closed.whole.rules.updated x low high;
   }
+
+  -- the nets of live reads, in the module
+  module _ (reads : List Net) (are : AreTapsOf plan taps (length plan.system.stencils.reads) reads) where
+    abbrev no_read : LiveRead
+    no_read = record { f = 0; g = 0; dx = pos 0; dy = pos 0 }
+
+    read_at : (k : ℕ) (r : LiveRead) → slice_get plan.system.stencils.reads k ≡ Some r → IsTapOf plan taps r (read_net reads k)
+    read_at k r at =
+        let within : k < length plan.system.stencils.reads = slice_get_within plan.system.stencils.reads k r at in
+        are.each k r (read_net reads k) at (slice_get-get_or reads k (Input 0) (subst (λ (n : ℕ). k < n) (sym are.one_each) within))
+
+    read_source : (k : ℕ) (r : LiveRead) → slice_get plan.system.stencils.reads k ≡ Some r → Keeps plan r.g
+    read_source k r at =
+        let between : IsRead plan.system.stencils.width plan.system.stencils.height plan.system.stencils.inputs images r = subst (IsRead plan.system.stencils.width plan.system.stencils.height plan.system.stencils.inputs images) (entry_or plan.system.stencils.reads k r r at) (is.system.stencils.reads.between k r (slice_get_within plan.system.stencils.reads k r at)) in
+        between.source_kept
+
+    there_at : (k : ℕ) (r : LiveRead) → slice_get plan.system.stencils.reads k ≡ Some r → IsNet last (read_net reads k)
+    there_at k r at = let tap = read_at k r at in (line r.g (read_source k r at)).buffer.net tap.place (read_net reads k) tap.there
+
+    read_there : (k : ℕ) → k < length reads → IsNet m (read_net reads k)
+    read_there k lt =
+        let at = slice_get-get_or plan.system.stencils.reads k no_read (subst (λ (n : ℕ). k < n) are.one_each lt) in
+        net_more m last grows (read_net reads k) (there_at k (slice_index_or plan.system.stencils.reads k no_read) at)
+
+    read_width : (k : ℕ) (r : LiveRead) → slice_get plan.system.stencils.reads k ≡ Some r → net_width m (read_net reads k) ≡ bits_of_type (type_at p r.g)
+    read_width k r at =
+        let tap = read_at k r at in
+        let kept = read_source k r at in
+        width_more m last grows (read_net reads k) (there_at k r at).declared ∙ (line r.g kept).buffer.width tap.place (read_net reads k) tap.there ∙ (line r.g kept).width ∙ plan_width p plan r.g stencils kept
+
+    read_shows : (k age : ℕ) (r : LiveRead) → slice_get plan.system.stencils.reads k ≡ Some r → pos age ≡ read_age plan r → ShowsPixels m p (delay_of plan r.g + age) r.g (read_net reads k)
+    read_shows k age r at aged n from before c s run rounds ok feeds q due low =
+        let tap = read_at k r at in
+        let same : pos age ≡ pos tap.age = aged ∙ sym tap.is_age in
+        let here : q + tap.age + delay_of plan r.g ≡ length (counted n before) = omega (arith, ints, same, due) in
+        whole_taps m last n grows copies from (streams rounds) lines (Keeps plan) IsInput (Feeds n p rounds) input_or (parts n from rounds ok) before c s run feeds r.g (read_source k r at) tap.place tap.age q (read_net reads k) tap.aged tap.there here low
+
+    pub read_nets : AreReadNets m p plan reads
+    read_nets = record { one_each = are.one_each; there = read_there; width = read_width; shows = read_shows }
 
   -- no path passes through two images
   pub apart : IsApart m p plan form nets

@@ -11,8 +11,8 @@ use Rattle.pointwise_ir.specs.Programs.{Program}
 use Rattle.net_build.proofs.Clocks.{bool_cases}
 use Rattle.circuit.specs.Rounds.{Rounds, Feeds, pixel_count, pixel_bits}
 use Rattle.circuit.specs.Runs.{IsRunning}
-use Rattle.circuit.proofs.Streamed.{Line, Streams, NetIsRight, AreImages}
-use Rattle.circuit.proofs.Horizons.{nets}
+use Rattle.circuit.proofs.Streamed.{Line, Streams, NetIsRight, TapsAreRight, AreImages}
+use Rattle.circuit.proofs.Horizons.{nets, taps}
 
 counted_going : (m : Netlist) (c : Clock) (before : List Clock) → c.reset ≡ false → is_held m c ≡ false → counted m (c ∷ before) ≡ c ∷ counted m before
 counted_going m c before off going =
@@ -52,3 +52,6 @@ module _ (whole b m : Netlist) (grows : Includes whole b) (copies : List ℕ) (f
 
   pub whole_nets : (before : List Clock) (c : Clock) (s : Snapshot) → IsRunning whole m from before c s → Fed (c ∷ before) → (g : ℕ) → IsKept g → NetIsRight streams lines (length (counted m before)) s g
   whole_nets before c s is feeds g kept = nets b m copies from streams lines IsKept IsInput Fed cases parts before c s (running_part before c s is) feeds g kept
+
+  pub whole_taps : (before : List Clock) (c : Clock) (s : Snapshot) → IsRunning whole m from before c s → Fed (c ∷ before) → (g : ℕ) → IsKept g → TapsAreRight streams lines (length (counted m before)) s g
+  whole_taps before c s is feeds g kept = taps b m copies from streams lines IsKept IsInput Fed cases parts before c s (running_part before c s is) feeds g kept

@@ -72,3 +72,7 @@ module _ (b m : Netlist) (copies : List ℕ) (from : Contents) (p : Streams) (li
   -- so each net is right at each counted clock
   pub nets : (before : List Clock) (c : Clock) (s : Snapshot) → IsRunning b m from before c s → Fed (c ∷ before) → (g : ℕ) → IsKept g → NetIsRight p lines (length (counted m before)) s g
   nets before c s is fed g kept = nets_right before c s is fed (λ h kept_h. horizon before c s is.clock is.since (parts.earlier before c is.off fed) h kept_h) g kept
+
+  -- and so are its taps
+  pub taps : (before : List Clock) (c : Clock) (s : Snapshot) → IsRunning b m from before c s → Fed (c ∷ before) → (g : ℕ) → IsKept g → TapsAreRight p lines (length (counted m before)) s g
+  taps before c s is fed g kept = taps_right before c s is g kept (horizon before c s is.clock is.since (parts.earlier before c is.off fed) g kept) (nets before c s is fed g kept)

@@ -1,18 +1,20 @@
 -- What the module of a program does, in each run, from any contents that fit, over any clocks.
-use Rattle.std.specs.Prelude.{◌≡◌, ℕ, ◌<◌, nat_le, Bool, not, ◌&&◌, IsTrue, if◌then◌else◌, List, ◌∷◌, length, map, slice_index_or, slice_get, Some}
+use Rattle.std.specs.Prelude.{◌≡◌, ℕ, ◌+◌, ◌<◌, nat_le, pos, Bool, not, ◌&&◌, IsTrue, if◌then◌else◌, List, ◌∷◌, length, map, slice_index_or, slice_get, Some}
+use Rattle.dk_base.specs.declared.stencils.LiveRead.{LiveRead}
 use Rattle.dk_base.specs.Stencils.{place}
 use Rattle.dk_base.specs.Types.{width_of}
 use Rattle.wiring.specs.declared.netlist.Net.{Net}
 use Rattle.wiring.specs.declared.netlist.Net.TheVariants.{Input}
-use Rattle.wiring.specs.Netlist.{Netlist, valid_net, dout_net}
+use Rattle.wiring.specs.Netlist.{Netlist, net_width, valid_net, dout_net}
 use Rattle.wiring.specs.Rules.{with_valids}
 use Rattle.wiring.specs.Snapshot.{Contents, Snapshot, IsNext, net_value}
 use Rattle.wiring.specs.Clock.{Clock, bit}
 use Rattle.wiring.specs.History.{was_reset, is_held, counted}
+use Rattle.net_build.specs.Draft.{IsNet}
 use Rattle.net_build.specs.Runs.{IsClockOf, InEachRun, IsReady}
 use Rattle.pointwise_ir.specs.Programs.{Program}
 use Rattle.pointwise_ir.specs.Stencils.{AreStencilsOf}
-use Rattle.buffer_plan.specs.Plans.{Plan, delay_of, depth_of, latency_of}
+use Rattle.buffer_plan.specs.Plans.{Plan, delay_of, depth_of, latency_of, read_age}
 use Rattle.line_buffer.specs.Streams.{IsPixel, BufferIsRight}
 use Rattle.line_buffer.specs.Places.{word_at}
 use Rattle.circuit.specs.declared.options.Options.{Options}
@@ -45,6 +47,17 @@ abbrev pub ShowsPixels : Netlist → Program → (delay g : ℕ) → Net → Typ
 ShowsPixels m p delay g net =
     (n : Netlist) (from : Contents) (before : List Clock) (c : Clock) (s : Snapshot) → IsRunning m n from before c s → (rounds : Rounds) → AreRounds p rounds → Feeds n p rounds (c ∷ before) →
     IsPixel (pixel_bits p rounds g) (pixel_count p rounds) delay (length (counted n before)) (net_value s net)
+
+-- the net of the live read at place k
+abbrev pub read_net : List Net → ℕ → Net
+read_net reads k = slice_index_or reads k (Input 0)
+
+-- The list has a net for each live read of the plan, in order. It has the width of the image that is read, and is that image's pixel which came the read's age before: so it shows the image with a delay that is greater by this age.
+pub record AreReadNets (m : Netlist) (p : Program) (plan : Plan) (reads : List Net) : Type 0 where
+  pub one_each : length reads ≡ length plan.system.stencils.reads
+  pub there : (k : ℕ) → k < length reads → IsNet m (read_net reads k)
+  pub width : (k : ℕ) (r : LiveRead) → slice_get plan.system.stencils.reads k ≡ Some r → net_width m (read_net reads k) ≡ width_of (type_at p r.g)
+  pub shows : (k age : ℕ) (r : LiveRead) → slice_get plan.system.stencils.reads k ≡ Some r → pos age ≡ read_age plan r → ShowsPixels m p (delay_of plan r.g + age) r.g (read_net reads k)
 
 -- The behaviour of the module of a program under a plan, where `places` says which word holds which pixel, the copies are registers that copy words, and the kept images have these nets.
 pub record Behaves (m : Netlist) (p : Program) (plan : Plan) (places : Places) (copies : List ℕ) (nets : List Net) : Type 0 where

@@ -34,6 +34,15 @@ pub record IsTapOf (plan : Plan) (taps : List (List Net)) (r : LiveRead) (tap : 
   pub aged : slice_get (ages_of plan r.g) place ≡ Some age
   pub there : slice_get (taps_at plan taps r.g) place ≡ Some tap
 
+-- each kept image has a net for each of its ages
+abbrev pub HaveTaps : Plan → List (List Net) → Type 0
+HaveTaps plan taps = (g : ℕ) → Keeps plan g → (place_in plan g < length taps) × (length (taps_at plan taps g) ≡ length (ages_of plan g))
+
+-- of the first n live reads each tap, in order
+pub record AreTapsOf (plan : Plan) (taps : List (List Net)) (n : ℕ) (reads : List Net) : Type 0 where
+  pub one_each : length reads ≡ n
+  pub each : (k : ℕ) (r : LiveRead) (tap : Net) → slice_get plan.system.stencils.reads k ≡ Some r → slice_get reads k ≡ Some tap → IsTapOf plan taps r tap
+
 -- each kept image before f has a net of its width for each of its ages
 pub record HasTaps (b : Netlist) (plan : Plan) (taps : List (List Net)) (f : ℕ) : Type 0 where
   pub there : (g : ℕ) → Keeps plan g → g < f → place_in plan g < length taps

@@ -7,14 +7,16 @@ ghost use Rattle.pointwise_ir.specs.Stencils.{AreStencilsOf};
 ghost use Rattle.dk_base.specs.FrameSizes.{size_of};
 ghost use Rattle.edge_select.specs.FrameTests.{AreFrameTests};
 ghost use Rattle.circuit.specs.Forms.{shapes_of, HasProperty};
+ghost use Rattle.circuit.specs.Taps.{HaveTaps, AreTapsOf};
 ghost use Rattle.circuit.specs.Images.{AreBuiltWith};
-ghost use Rattle.circuit.specs.Behaviour.{HasPorts};
+ghost use Rattle.circuit.specs.Behaviour.{HasPorts, AreReadNets};
 ghost use Rattle.circuit.specs.Nets.{IsApart};
 ghost use Rattle.circuit.specs.Modules.{IsModuleOf};
 ghost use Rattle.circuit.specs.Ends.{CanEnd, IsClosed};
 
 use crate::forms::BufferForm;
 use crate::outs::all_outs;
+use crate::reader::tap_of;
 use crate::taps::Taps;
 use buffer_plan::Plan;
 use dk_base::OutOfMemory;
@@ -26,11 +28,12 @@ use pointwise_ir::Program;
 use std::alloc::Global;
 use wiring::Net;
 
-/// A module, and the net of each kept image in order.
+/// A module, with the net of each kept image and the net of each live read, both in order.
 #[derive(Drop)]
 pub struct Built {
     pub module: Module,
     pub nets: Vec<Net>,
+    pub reads: Vec<Net>,
 }
 
 // What is built of a plan's images: for each kept image its net and its taps, in order, with the turns of their arrays and the frame tests of the module.
@@ -62,6 +65,20 @@ fn closed(
     Ok(module)
 }
 
+// The taps of all live reads, in order.
+fn read_nets(alloc: Global, plan: &Plan, taps: &[Taps]) -> Result<Vec<Net>, OutOfMemory>
+    requires taps { HaveTaps plan.now taps.now }
+    ensures { IfOk result (λ reads. AreTapsOf plan.now taps.now (length plan.now.system.stencils.reads) reads.items) }
+{
+    plan.law();
+    let mut reads = Vec::new(alloc);
+    for read in plan.live_reads() {
+        let tap = tap_of(plan, taps, *read);
+        reads.push(tap)?;
+    }
+    Ok(reads)
+}
+
 // The module of a builder in which all kept images are built: its outputs are driven.
 pub fn finished<F: BufferForm>(
     b: Builder,
@@ -77,14 +94,17 @@ pub fn finished<F: BufferForm>(
     ensures whole { IfOk result (λ r. IsWhole r.module.netlist r.module.netlist) }
     ensures runs { IfOk result (λ r. RunsOn r.module.netlist) }
     ensures circuit { IfOk result (λ r. IsModuleOf r.module.netlist ir.now plan.now (F.form form.now) r.nets.items) }
+    ensures reads { IfOk result (λ r. AreReadNets r.module.netlist ir.now plan.now r.reads.items) }
     ensures arrays { IfOk result (λ r. r.module.netlist.arrays ≡ shapes_of (F.form form.now).shapes plan.now plan.now.system.stencils.images) }
     ensures property { IfOk result (λ r. HasProperty r.module.netlist (F.form form.now).property) }
     ensures apart { IfOk result (λ r. IsApart r.module.netlist ir.now plan.now (F.form form.now) r.nets.items) }
 {
     plan.law();
+    let reads = read_nets(images.alloc, plan, &images.taps)?;
     let module = closed(images.alloc, b, plan, &images.nets, &images.tests)?;
     Ok(Built {
         module,
         nets: images.nets,
+        reads,
     })
 }

@@ -7,7 +7,7 @@ ghost use Rattle.pointwise_ir.specs.Stencils.{AreStencilsOf};
 ghost use Rattle.line_buffer.specs.SharedCounters.{AreTurns};
 ghost use Rattle.circuit.specs.Forms.{shapes_of, HasProperty};
 ghost use Rattle.circuit.specs.Images.{AreBuiltWith};
-ghost use Rattle.circuit.specs.Behaviour.{IsPlanOf, HasPorts};
+ghost use Rattle.circuit.specs.Behaviour.{IsPlanOf, HasPorts, AreReadNets};
 ghost use Rattle.circuit.specs.Nets.{IsApart};
 ghost use Rattle.circuit.specs.Modules.{IsModuleOf};
 
@@ -93,6 +93,7 @@ pub fn build_with<F: BufferForm>(
     ensures whole { IfOk result (λ r. IsWhole r.module.netlist r.module.netlist) }
     ensures runs { IfOk result (λ r. RunsOn r.module.netlist) }
     ensures circuit { IfOk result (λ r. IsModuleOf r.module.netlist ir.now plan.now (F.form form.now) r.nets.items) }
+    ensures reads { IfOk result (λ r. AreReadNets r.module.netlist ir.now plan.now r.reads.items) }
     ensures arrays { IfOk result (λ r. r.module.netlist.arrays ≡ shapes_of (F.form form.now).shapes plan.now plan.now.system.stencils.images) }
     ensures property { IfOk result (λ r. HasProperty r.module.netlist (F.form form.now).property) }
     ensures apart { IfOk result (λ r. IsApart r.module.netlist ir.now plan.now (F.form form.now) r.nets.items) }
@@ -126,6 +127,7 @@ pub fn build<F: BufferForm>(
     ensures whole { IfOk result (λ r. IsWhole r.module.netlist r.module.netlist) }
     ensures runs { IfOk result (λ r. RunsOn r.module.netlist) }
     ensures circuit { IfOk result (λ r. IsModuleOf r.module.netlist ir.now plan.now (F.form form.now) r.nets.items) }
+    ensures reads { IfOk result (λ r. AreReadNets r.module.netlist ir.now plan.now r.reads.items) }
     ensures arrays { IfOk result (λ r. r.module.netlist.arrays ≡ shapes_of (F.form form.now).shapes plan.now plan.now.system.stencils.images) }
     ensures property { IfOk result (λ r. HasProperty r.module.netlist (F.form form.now).property) }
 {

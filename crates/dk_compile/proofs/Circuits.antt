@@ -7,16 +7,16 @@ use Rattle.pointwise_ir.specs.Programs.{Program}
 use Rattle.buffer_plan.specs.Plans.{Plan}
 use Rattle.line_buffer.proofs.Chaining.{no_copies}
 use Rattle.circuit.specs.Forms.{HasProperty, chain_form, block_form, shapes_of}
-use Rattle.circuit.specs.Behaviour.{HasPorts}
+use Rattle.circuit.specs.Behaviour.{HasPorts, AreReadNets}
 use Rattle.circuit.specs.Nets.{IsApart}
 use Rattle.circuit.specs.Modules.{IsModuleOf}
 use Rattle.circuit.specs.Driven.{Drives}
 use Rattle.dk_compile.specs.Circuits.{IsCircuitOf}
 
 module _ (m : Netlist) (p : Program) (plan : Plan) (enable : Bool) where
-  pub chain_circuit : (nets : List Net) → HasPorts m p enable → IsWhole m m → RunsOn m → IsModuleOf m p plan chain_form nets → m.arrays ≡ shapes_of chain_form.shapes plan plan.system.stencils.images → HasProperty m chain_form.property → IsApart m p plan chain_form nets → Drives m p plan →
-      IsCircuitOf p plan enable None m nets
-  chain_circuit nets ports whole runs is arrays once apart drives = record {
+  pub chain_circuit : (nets reads : List Net) → HasPorts m p enable → IsWhole m m → RunsOn m → IsModuleOf m p plan chain_form nets → AreReadNets m p plan reads → m.arrays ≡ shapes_of chain_form.shapes plan plan.system.stencils.images → HasProperty m chain_form.property → IsApart m p plan chain_form nets → Drives m p plan →
+      IsCircuitOf p plan enable None m nets reads
+  chain_circuit nets reads ports whole runs is reads_are arrays once apart drives = record {
     ports = ports;
     whole = whole;
     runs = runs;
@@ -30,13 +30,14 @@ module _ (m : Netlist) (p : Program) (plan : Plan) (enable : Bool) where
     arrays = arrays;
     once = λ x lt. (let one = once x lt in record { read_at = one.index; put_at = one.index; read = one.read; put = one.put; one = λ same. refl });
     nets_are = is.nets_are;
+    reads_are = reads_are;
     direct = is.direct;
     apart = apart;
   }
 
-  pub block_circuit : (least : ℕ) (splits : List (List ℕ)) (nets : List Net) → HasPorts m p enable → IsWhole m m → RunsOn m → IsModuleOf m p plan (block_form least splits) nets → m.arrays ≡ shapes_of (block_form least splits).shapes plan plan.system.stencils.images → HasProperty m (block_form least splits).property → IsApart m p plan (block_form least splits) nets → Drives m p plan →
-      IsCircuitOf p plan enable (Some least) m nets
-  block_circuit least splits nets ports whole runs is arrays once apart drives = record {
+  pub block_circuit : (least : ℕ) (splits : List (List ℕ)) (nets reads : List Net) → HasPorts m p enable → IsWhole m m → RunsOn m → IsModuleOf m p plan (block_form least splits) nets → AreReadNets m p plan reads → m.arrays ≡ shapes_of (block_form least splits).shapes plan plan.system.stencils.images → HasProperty m (block_form least splits).property → IsApart m p plan (block_form least splits) nets → Drives m p plan →
+      IsCircuitOf p plan enable (Some least) m nets reads
+  block_circuit least splits nets reads ports whole runs is reads_are arrays once apart drives = record {
     ports = ports;
     whole = whole;
     runs = runs;
@@ -50,6 +51,7 @@ module _ (m : Netlist) (p : Program) (plan : Plan) (enable : Bool) where
     arrays = arrays;
     once = once;
     nets_are = is.nets_are;
+    reads_are = reads_are;
     direct = is.direct;
     apart = apart;
   }

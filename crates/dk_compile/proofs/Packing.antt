@@ -1,8 +1,12 @@
 -- A module that simulates a circuit does in its own runs what the circuit does.
-use Rattle.std.proofs.Common.{◌≡◌, ℕ, ◌+◌, Bool, true, List, [], ◌∷◌, length, map, refl, sym, ap, subst, ◌∙◌, Option, None}
-use Rattle.std.specs.Prelude.{IsTrue, nat_le, not, ◌&&◌, if◌then◌else◌, slice_index, replicate, All}
+use Rattle.std.proofs.Common.{◌≡◌, ℕ, ◌+◌, Bool, true, ◌<◌, List, [], ◌∷◌, length, map, refl, sym, ap, subst, ◌∙◌, Option, None, Some}
+use Rattle.std.specs.Prelude.{IsTrue, nat_le, not, ◌&&◌, if◌then◌else◌, slice_index, slice_get, replicate, All}
 use Rattle.std.proofs.lemmas.List.Elements.{All-nil, All-cons, All-head, All-tail}
+use Rattle.std.proofs.lemmas.List.{get_or-take}
+use Rattle.std.proofs.lemmas.Option.{slice_get_within}
+use Rattle.dk_base.specs.declared.stencils.LiveRead.{LiveRead}
 use Rattle.wiring.specs.declared.netlist.Net.{Net}
+use Rattle.wiring.specs.declared.netlist.Net.TheVariants.{Input, Output, Wire, Reg}
 use Rattle.wiring.specs.Netlist.{Netlist, dout_net}
 use Rattle.wiring.specs.Snapshot.{Contents, Snapshot, Fit, FitsContents, IsNext, net_value}
 use Rattle.wiring.specs.Clock.{Clock, bit, given}
@@ -11,6 +15,7 @@ use Rattle.wiring.specs.Runs.{Runs}
 use Rattle.wiring.specs.Order.{IsEvaluationOrder}
 use Rattle.wiring.specs.Rules.{KeepsRules}
 use Rattle.netlist.proofs.FitLaws.{contents_fit}
+use Rattle.net_build.specs.Draft.{IsNet}
 use Rattle.net_build.specs.Runs.{IsWhole, FitsPorts, IsClockOf, RunsOn}
 use Rattle.net_build.proofs.Parts.{Includes-refl}
 use Rattle.net_build.proofs.Runs.{clock_contents, clock_inputs}
@@ -27,12 +32,23 @@ use Rattle.line_buffer.specs.Streams.{IsPixel, BufferIsRight}
 use Rattle.line_buffer.specs.Places.{word_at}
 use Rattle.circuit.specs.Runs.{IsRunning}
 use Rattle.circuit.specs.Rounds.{Rounds, Feeds, pixel_count, pixel_bits}
+use Rattle.circuit.specs.Taps.{Keeps}
 use Rattle.circuit.specs.Forms.{Places}
-use Rattle.circuit.specs.Behaviour.{HasPorts, Behaves}
+use Rattle.circuit.specs.Behaviour.{HasPorts, ShowsPixels, net_of, read_net, AreReadNets, Behaves}
 use Rattle.circuit.specs.Driven.{Drives, input_widths, driven}
 use Rattle.circuit.proofs.Driven.{zeros_fit, given_fits, fed_fit}
 use Rattle.dk_compile.specs.Circuits.{IsCircuitOf, form_with}
-use Rattle.dk_compile.specs.Packed.{BehavesAs, IsPackedCircuitOf}
+use Rattle.dk_compile.specs.Packed.{ShowsImage, BehavesAs, IsPackedCircuitOf}
+
+-- a net of the circuit has its value in the module too
+abbrev pub KeepsNets : Netlist → View → Type 0
+KeepsNets old v = (s : Snapshot) (n : Net) → IsNet old n → net_value (seen v s) n ≡ net_value s n
+
+packed_nets : (old : Netlist) (slots : List Slot) → KeepsNets old (packed old slots)
+packed_nets old slots s (Input k) is = refl
+packed_nets old slots s (Output k) is = refl
+packed_nets old slots s (Wire k) is = get_or-take (length old.wires) s.wires k 0 is.declared
+packed_nets old slots s (Reg k) is = refl
 
 -- contents that are seen alike are equal, if they fit
 abbrev pub IsExact : Netlist → View → Type 0
@@ -81,11 +97,21 @@ module _ (m old : Netlist) (v : View) (sim : Simulates m old v) (whole : IsWhole
   next_alike from before c s is next is_next =
       sim.next s next (record { settled = is.at.snapshot.settled; contents = clock_contents m m from before c s is; inputs = clock_inputs m m from before c s is }) is_next
 
-  pub behaves_alike : (p : Program) (plan : Plan) (places : Places) (copies : List ℕ) (nets : List Net) → IsExact m v → Behaves old p plan places copies nets → BehavesAs m v p plan places copies
-  behaves_alike p plan places copies nets exact b = record {
-    dout = λ k g at from before c s is rounds are feeds.
-        subst (λ (cs : List Clock). IsPixel (pixel_bits p rounds g) (pixel_count p rounds) (latency_of plan k) (length cs) (net_value s (dout_net k))) (sym (counted_alike before))
-        (b.dout k g at old (v.contents from) before c (seen v s) (running_alike from before c s is) rounds are (feeds_alike p rounds (c ∷ before) feeds));
+  shows_alike : (p : Program) (delay g : ℕ) (net : Net) → ((s : Snapshot) → net_value (seen v s) net ≡ net_value s net) → ShowsPixels old p delay g net → ShowsImage m p delay g net
+  shows_alike p delay g net same shows from before c s is rounds are feeds =
+      subst (λ (value : ℕ). IsPixel (pixel_bits p rounds g) (pixel_count p rounds) delay (length (counted m before)) value) (same s)
+      (subst (λ (cs : List Clock). IsPixel (pixel_bits p rounds g) (pixel_count p rounds) delay (length cs) (net_value (seen v s) net)) (sym (counted_alike before))
+      (shows old (v.contents from) before c (seen v s) (running_alike from before c s is) rounds are (feeds_alike p rounds (c ∷ before) feeds)))
+
+  read_within : (plan : Plan) (reads : List Net) (k : ℕ) (r : LiveRead) → length reads ≡ length plan.system.stencils.reads → slice_get plan.system.stencils.reads k ≡ Some r → k < length reads
+  read_within plan reads k r count at = subst (λ (n : ℕ). k < n) (sym count) (slice_get_within plan.system.stencils.reads k r at)
+
+  pub behaves_alike : (p : Program) (plan : Plan) (places : Places) (copies : List ℕ) (nets reads : List Net) → IsExact m v → KeepsNets old v → Behaves old p plan places copies nets → ((g : ℕ) → Keeps plan g → IsNet old (net_of plan nets g)) → AreReadNets old p plan reads →
+      BehavesAs m v p plan places copies nets reads
+  behaves_alike p plan places copies nets reads exact keeps b nets_there reads_are = record {
+    dout = λ k g at. shows_alike p (latency_of plan k) g (dout_net k) (λ s. refl) (b.dout k g at);
+    net = λ g kept. shows_alike p (delay_of plan g) g (net_of plan nets g) (λ s. keeps s (net_of plan nets g) (nets_there g kept)) (b.net g kept);
+    read = λ k age r at aged. shows_alike p (delay_of plan r.g + age) r.g (read_net reads k) (λ s. keeps s (read_net reads k) (reads_are.there k (read_within plan reads k r reads_are.one_each at))) (reads_are.shows k age r at aged);
     valid = λ k low from before c s is since.
         b.valid k low old (v.contents from) before c (seen v s) (clock_alike from before c s is) since
         ∙ ap (λ (h : Bool). bit ((not c.reset && not h) && nat_le (latency_of plan k) (length (counted old before)))) (sym (held_alike c))
@@ -132,9 +158,9 @@ module _ (m old : Netlist) (v : View) (sim : Simulates m old v) (whole : IsWhole
       followed from to dins shots start fit run = run_followed m old v sim whole.rules whole.order whole.ordered from to (driven (length p.inputs) dins) shots start (driven_fit dins fit) run
 
 -- The module into which a circuit is packed.
-pub packed_circuit : (p : Program) (plan : Plan) (enable : Bool) (block : Option ℕ) (m old : Netlist) (slots : List Slot) (nets : List Net) (order : List ℕ) → IsProgram p → KeepsRules m → IsEvaluationOrder m.assigns order → IsCircuitOf p plan enable block old nets → IsPacking m old slots → (block ≡ None → m ≡ old) →
-    IsPackedCircuitOf p plan enable block m nets
-packed_circuit p plan enable block m old slots nets order program rules ordered circuit packing none = record {
+pub packed_circuit : (p : Program) (plan : Plan) (enable : Bool) (block : Option ℕ) (m old : Netlist) (slots : List Slot) (nets reads : List Net) (order : List ℕ) → IsProgram p → KeepsRules m → IsEvaluationOrder m.assigns order → IsCircuitOf p plan enable block old nets reads → IsPacking m old slots → (block ≡ None → m ≡ old) →
+    IsPackedCircuitOf p plan enable block m nets reads
+packed_circuit p plan enable block m old slots nets reads order program rules ordered circuit packing none = record {
   ports = ports_of m old v sim whole circuit.whole p enable circuit.ports;
   whole = whole;
   runs = runs_alike m old v sim whole circuit.whole circuit.runs;
@@ -144,7 +170,7 @@ packed_circuit p plan enable block m old slots nets order program rules ordered 
   slots = slots;
   packing = packing;
   none = none;
-  behaves = behaves_alike m old v sim whole circuit.whole p plan (form_with block circuit.splits).places circuit.copies nets (λ c d fits other same. contents_seen m old slots packing.filled c d fits other same) circuit.behaves;
+  behaves = behaves_alike m old v sim whole circuit.whole p plan (form_with block circuit.splits).places circuit.copies nets reads (λ c d fits other same. contents_seen m old slots packing.filled c d fits other same) (packed_nets old slots) circuit.behaves circuit.nets_are.there circuit.reads_are;
 }
   where
     v : View
@@ -157,6 +183,6 @@ packed_circuit p plan enable block m old slots nets order program rules ordered 
     whole = record { includes = Includes-refl m; rules = rules; order = order; ordered = ordered }
 
 -- Without packing the module is the circuit.
-pub plain_circuit : (p : Program) (plan : Plan) (enable : Bool) (block : Option ℕ) (m : Netlist) (nets : List Net) → IsProgram p → IsCircuitOf p plan enable block m nets → IsPackedCircuitOf p plan enable block m nets
-plain_circuit p plan enable block m nets program circuit =
-    packed_circuit p plan enable block m m (whole_slots 0 m.arrays) nets circuit.whole.order program circuit.whole.rules circuit.whole.ordered circuit (whole_packing m circuit.whole.rules) (λ e. refl)
+pub plain_circuit : (p : Program) (plan : Plan) (enable : Bool) (block : Option ℕ) (m : Netlist) (nets reads : List Net) → IsProgram p → IsCircuitOf p plan enable block m nets reads → IsPackedCircuitOf p plan enable block m nets reads
+plain_circuit p plan enable block m nets reads program circuit =
+    packed_circuit p plan enable block m m (whole_slots 0 m.arrays) nets reads circuit.whole.order program circuit.whole.rules circuit.whole.ordered circuit (whole_packing m circuit.whole.rules) (λ e. refl)

@@ -8,7 +8,7 @@ use Rattle.pointwise_ir.specs.Programs.{Program}
 use Rattle.buffer_plan.specs.Plans.{Plan, bits_of}
 use Rattle.line_buffer.specs.Indices.{IsReadAndPut, is_long, is_direct}
 use Rattle.circuit.specs.Forms.{Form, chain_form, block_form, shapes_of}
-use Rattle.circuit.specs.Behaviour.{HasPorts, Behaves}
+use Rattle.circuit.specs.Behaviour.{HasPorts, AreReadNets, Behaves}
 use Rattle.circuit.specs.Nets.{AreNetsOf, IsApart}
 use Rattle.circuit.specs.Modules.{CopyLongArrays, HasBits, ReadsDirectly}
 use Rattle.circuit.specs.Driven.{Drives}
@@ -19,7 +19,7 @@ form_with None splits = chain_form
 form_with (Some least) splits = block_form least splits
 
 -- The module of a program under a plan, with a chain of segments for each buffered image. With a number, each array of at least this number of words is read one clock ahead, into a register that copies its word, and the segments may be divided further.
-pub record IsCircuitOf (p : Program) (plan : Plan) (enable : Bool) (block : Option ℕ) (m : Netlist) (nets : List Net) : Type 0 where
+pub record IsCircuitOf (p : Program) (plan : Plan) (enable : Bool) (block : Option ℕ) (m : Netlist) (nets reads : List Net) : Type 0 where
   pub ports : HasPorts m p enable
   pub whole : IsWhole m m
   -- no run that begins with a reset clock stops
@@ -41,6 +41,8 @@ pub record IsCircuitOf (p : Program) (plan : Plan) (enable : Bool) (block : Opti
   pub once : (x : ℕ) → x < length m.arrays → IsReadAndPut (is_direct (is_long block) m x) (read_indices m x) (put_indices m x)
   -- the nets are the module's: what the douts show, and what goes into the chains' arrays
   pub nets_are : AreNetsOf m p plan (form_with block splits) copies nets
+  -- the net of each live read shows the image that is read, the read's age later
+  pub reads_are : AreReadNets m p plan reads
   -- no path of gates leads from an array that has a copy to anything but its copy
   pub direct : ReadsDirectly m p plan (form_with block splits) copies nets
   -- at an age of at least 1 no path of gates passes through two images

@@ -38,8 +38,8 @@ pub record IsTextOf (m : NamedNetlist) (text : List ℕ) : Type 0 where
   pub stands : StandsFor text m
   pub only : (other : NamedNetlist) → StandsFor text other → other ≡ m
 
--- The text is that of the program p, whose form, system, solution, plan, module and nets these are, and the Verilog text is one of the module.
-pub record IsCompiled (text : List ℕ) (age : ℕ) (enable : Bool) (block : Option ℕ) (p : Typing) (ir : Program) (system : System) (solution : Solution) (plan : Plan) (m : NamedNetlist) (nets : List Net) (verilog : List ℕ) : Type 0 where
+-- The text is that of the program p, whose form, system, solution, plan, module and nets of kept images and live reads these are, and the Verilog text is one of the module.
+pub record IsCompiled (text : List ℕ) (age : ℕ) (enable : Bool) (block : Option ℕ) (p : Typing) (ir : Program) (system : System) (solution : Solution) (plan : Plan) (m : NamedNetlist) (nets reads : List Net) (verilog : List ℕ) : Type 0 where
   pub planned : IsPlanned text age p ir system solution plan
-  pub circuit : IsPackedCircuitOf ir plan enable block m.netlist nets
+  pub circuit : IsPackedCircuitOf ir plan enable block m.netlist nets reads
   pub printed : IsTextOf m verilog

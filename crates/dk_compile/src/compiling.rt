@@ -41,7 +41,7 @@ pub struct PlannedProgram {
     pub plan: Plan,
 }
 
-/// A program that is compiled: its plan with what that rests on, its module with the net of each kept image in order, and the Verilog text of the module. With `block` the module's arrays are packed.
+/// A program that is compiled: its plan with what that rests on, its module with the nets of the kept images and of the live reads in order, and the Verilog text of the module. With `block` the module's arrays are packed.
 #[derive(Drop)]
 pub struct Compiled {
     pub ir: Program,
@@ -50,6 +50,7 @@ pub struct Compiled {
     pub plan: Plan,
     pub module: Module,
     pub nets: Vec<Net>,
+    pub reads: Vec<Net>,
     pub text: Vec<u8>,
 }
 
@@ -61,11 +62,12 @@ struct LeastPlan {
     plan: Plan,
 }
 
-// A module with the nets of the kept images, and its text.
+// A module with the nets of the kept images and of the live reads, and its text.
 #[derive(Drop)]
 struct PrintedModule {
     module: Module,
     nets: Vec<Net>,
+    reads: Vec<Net>,
     text: Vec<u8>,
 }
 
@@ -113,7 +115,7 @@ pub fn planned(alloc: Global, text: &[u8], age: u8) -> Result<PlannedProgram, So
 fn built(alloc: Global, ir: &Program, plan: &Plan, options: Options) -> Result<Built, OutOfMemory>
     requires plan { IsPlanOf ir.now plan.now (record { enable = options.enable; age = options.age }) }
     requires block { IfSome options.block (λ least. 2 ≤ least) }
-    ensures circuit { IfOk result (λ r. IsCircuitOf ir.now plan.now options.enable options.block r.«module».netlist r.nets.items) }
+    ensures circuit { IfOk result (λ r. IsCircuitOf ir.now plan.now options.enable options.block r.«module».netlist r.nets.items r.reads.items) }
     ensures named { IfOk result (λ r. r.«module».names ≡ names_for r.«module».netlist) }
 {
     ir.law();
@@ -144,9 +146,9 @@ fn packed(
     circuit: Built,
     options: Options,
 ) -> Result<Built, OutOfMemory>
-    requires circuit { IsCircuitOf ir.now plan.now options.enable options.block circuit.«module».netlist circuit.nets.items }
+    requires circuit { IsCircuitOf ir.now plan.now options.enable options.block circuit.«module».netlist circuit.nets.items circuit.reads.items }
     requires named { circuit.«module».names ≡ names_for circuit.«module».netlist }
-    ensures packed { IfOk result (λ r. IsPackedCircuitOf ir.now plan.now options.enable options.block r.«module».netlist r.nets.items) }
+    ensures packed { IfOk result (λ r. IsPackedCircuitOf ir.now plan.now options.enable options.block r.«module».netlist r.nets.items r.reads.items) }
     ensures named { IfOk result (λ r. r.«module».names ≡ names_for r.«module».netlist) }
     ensures bits { IfOk result (λ r. array_bits r.«module».netlist.arrays ≡ bits_of plan.now) }
 {
@@ -154,12 +156,20 @@ fn packed(
     let Some(least) = options.block else {
         return Ok(circuit);
     };
-    let Built { module, nets } = circuit;
+    let Built {
+        module,
+        nets,
+        reads,
+    } = circuit;
     let packed = pack(alloc, module, least)?;
     let module = packed.module;
     let _wiring = module.wiring();
     let _order = module.order();
-    Ok(Built { module, nets })
+    Ok(Built {
+        module,
+        nets,
+        reads,
+    })
 }
 
 // The module of a plan, and its text.
@@ -171,14 +181,23 @@ fn printed(
 ) -> Result<PrintedModule, OutOfMemory>
     requires plan { IsPlanOf ir.now plan.now (record { enable = options.enable; age = options.age }) }
     requires block { IfSome options.block (λ least. 2 ≤ least) }
-    ensures circuit { IfOk result (λ r. IsPackedCircuitOf ir.now plan.now options.enable options.block r.«module».netlist r.nets.items) }
+    ensures circuit { IfOk result (λ r. IsPackedCircuitOf ir.now plan.now options.enable options.block r.«module».netlist r.nets.items r.reads.items) }
     ensures text { IfOk result (λ r. IsTextOf r.«module» r.text.items) }
 {
     plan.law();
     let circuit = built(alloc, ir, plan, options)?;
-    let Built { module, nets } = packed(alloc, ir, plan, circuit, options)?;
+    let Built {
+        module,
+        nets,
+        reads,
+    } = packed(alloc, ir, plan, circuit, options)?;
     let text = print(alloc, &module)?;
-    Ok(PrintedModule { module, nets, text })
+    Ok(PrintedModule {
+        module,
+        nets,
+        reads,
+        text,
+    })
 }
 
 /// The Verilog text of the circuit of a program, with the port `en` if it is requested, at an age of at most 64 clocks, and with arrays of at least `block` words in the form of block memories and packed; or the first fault of the text at this age. The Verilog text is in the language of IEEE Std 1364-2005.
@@ -186,7 +205,7 @@ pub fn compile_with(alloc: Global, text: &[u8], options: Options) -> Result<Comp
     requires age { options.age ≤ MAX_AGE }
     requires block { IfSome options.block (λ least. 2 ≤ least) }
     ensures compiled { IfOk result (λ c. (p : Typing)
-        × IsCompiled text.now options.age options.enable options.block p c.ir c.system c.solution c.plan c.«module» c.nets.items c.text.items) }
+        × IsCompiled text.now options.age options.enable options.block p c.ir c.system c.solution c.plan c.«module» c.nets.items c.reads.items c.text.items) }
     ensures fault { IfErr result (IsErrorBy (IsFaultAt text.now options.age)) }
 {
     let PlannedProgram {
@@ -198,6 +217,7 @@ pub fn compile_with(alloc: Global, text: &[u8], options: Options) -> Result<Comp
     let PrintedModule {
         module,
         nets,
+        reads,
         text: verilog,
     } = printed(alloc, &ir, &plan, options)?;
     Ok(Compiled {
@@ -207,6 +227,7 @@ pub fn compile_with(alloc: Global, text: &[u8], options: Options) -> Result<Comp
         plan,
         module,
         nets,
+        reads,
         text: verilog,
     })
 }
@@ -214,7 +235,7 @@ pub fn compile_with(alloc: Global, text: &[u8], options: Options) -> Result<Comp
 /// The Verilog text of the circuit of a program, without the port `en`, at age 0.
 pub fn compile(alloc: Global, text: &[u8]) -> Result<Compiled, SourceError>
     ensures compiled { IfOk result (λ c. (p : Typing) × IsCompiled text.now 0 false None
-        p c.ir c.system c.solution c.plan c.«module» c.nets.items c.text.items) }
+        p c.ir c.system c.solution c.plan c.«module» c.nets.items c.reads.items c.text.items) }
     ensures fault { IfErr result (IsErrorBy (IsFaultAt text.now 0)) }
 {
     let options = Options {

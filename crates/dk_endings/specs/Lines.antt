@@ -153,7 +153,7 @@ widen_fault_line widen.Limits = codes "widen: Limits\n"
 abbrev pub fault_line : Ending → List ℕ
 fault_line ending.Done = []
 fault_line ending.Usage =
-    codes "usage: run [--age K] PROG IN OUT | compile [--enable] [--age K] [--block N] PROG OUT | plan [--age K] PROG | sim VERILOG CLOCKS IN OUT [--fill FILL] [--hold K] | eval PROG IN OUT | make N | check PROG REPORT | trace VERILOG CLOCKS IN VCD | cut N PROG OUT | narrow PROG OUT | widen P PROG OUT | explain PROG\n"
+    codes "usage: run [--age K] PROG IN OUT | compile [--enable] [--age K] [--block N] PROG OUT | nets [--enable] [--age K] [--block N] PROG | plan [--age K] PROG | sim VERILOG CLOCKS IN OUT [--fill FILL] [--hold K] | eval PROG IN OUT | make N | check PROG REPORT | trace VERILOG CLOCKS IN VCD | cut N PROG OUT | narrow PROG OUT | widen P PROG OUT | explain PROG\n"
 fault_line (ending.Source fault) = source_line fault
 fault_line (ending.Image fault) = image_line fault
 fault_line (ending.Verilog fault) = verilog_line fault

@@ -301,7 +301,7 @@ impl Ending {
         match self {
             Ending::Done => plain(""),
             Ending::Usage => plain(
-                "usage: run [--age K] PROG IN OUT | compile [--enable] [--age K] [--block N] PROG OUT | plan [--age K] PROG | sim VERILOG CLOCKS IN OUT [--fill FILL] [--hold K] | eval PROG IN OUT | make N | check PROG REPORT | trace VERILOG CLOCKS IN VCD | cut N PROG OUT | narrow PROG OUT | widen P PROG OUT | explain PROG\n",
+                "usage: run [--age K] PROG IN OUT | compile [--enable] [--age K] [--block N] PROG OUT | nets [--enable] [--age K] [--block N] PROG | plan [--age K] PROG | sim VERILOG CLOCKS IN OUT [--fill FILL] [--hold K] | eval PROG IN OUT | make N | check PROG REPORT | trace VERILOG CLOCKS IN VCD | cut N PROG OUT | narrow PROG OUT | widen P PROG OUT | explain PROG\n",
             ),
             Ending::Source(fault) => source_line(fault),
             Ending::Image(ImageFault::TooLong) => {

@@ -84,9 +84,9 @@ module _ (laws : Laws) (source : List ℕ) (age : ℕ) (enable : Bool) (block : 
 
   bench : FitsBench (din_widths m) file q.size rounds
   bench =
-      let typed = is_typed source age enable block q c.ir c.system c.solution c.plan c.«module» c.nets.items c.text.items from.is in
-      let given = form source age enable block q c.ir c.system c.solution c.plan c.«module» c.nets.items c.text.items from.is in
-      let dins = din_widths_are source age enable block q c.ir c.system c.solution c.plan c.«module» c.nets.items c.text.items from.is in
+      let typed = is_typed source age enable block q c.ir c.system c.solution c.plan c.«module» c.nets.items c.reads.items c.text.items from.is in
+      let given = form source age enable block q c.ir c.system c.solution c.plan c.«module» c.nets.items c.reads.items c.text.items from.is in
+      let dins = din_widths_are source age enable block q c.ir c.system c.solution c.plan c.«module» c.nets.items c.reads.items c.text.items from.is in
       let widths : map width_of (map (λ (i : TypedInput). i.ty) q.inputs) ≡ din_widths m = widths_same q c.ir given ∙ sym dins in
       record { frame = typed.frame; fits = subst (λ ws. FitsFile (ports_with q.size ws) file rounds) widths fits }
 
@@ -107,7 +107,7 @@ module _ (laws : Laws) (source : List ℕ) (age : ℕ) (enable : Bool) (block : 
           → (shots : List Snapshot) × (to : Contents) × Runs m begin given_clocks shots to
       by (inl run) = run
       by (inr (shots, x, i, stops)) =
-          absurd (no_stop source age enable block q c.ir c.system c.solution c.plan c.«module» c.nets.items c.text.items from.is file rounds fits fill laws.picture laws.rasters clocks refl shots x i stops)
+          absurd (no_stop source age enable block q c.ir c.system c.solution c.plan c.«module» c.nets.items c.reads.items c.text.items from.is file rounds fits fill laws.picture laws.rasters clocks refl shots x i stops)
 
   shown : IsShown m (drive_from fill clocks) q.size (samples_of rounds) (output_file q rounds)
   shown =
@@ -115,8 +115,8 @@ module _ (laws : Laws) (source : List ℕ) (age : ℕ) (enable : Bool) (block : 
       record {
         shots = shots;
         run = record { to = to; runs = runs };
-        enough = shows_enough source age enable block q c.ir c.system c.solution c.plan c.«module» c.nets.items c.text.items from.is file rounds fits fill laws.picture laws.rasters clocks refl shots (record { to = to; runs = runs });
-        file_is = sym (ap file_of (images_same source age enable block q c.ir c.system c.solution c.plan c.«module» c.nets.items c.text.items from.is file rounds fits fill laws.picture laws.rasters clocks refl shots (record { to = to; runs = runs })));
+        enough = shows_enough source age enable block q c.ir c.system c.solution c.plan c.«module» c.nets.items c.reads.items c.text.items from.is file rounds fits fill laws.picture laws.rasters clocks refl shots (record { to = to; runs = runs });
+        file_is = sym (ap file_of (images_same source age enable block q c.ir c.system c.solution c.plan c.«module» c.nets.items c.reads.items c.text.items from.is file rounds fits fill laws.picture laws.rasters clocks refl shots (record { to = to; runs = runs })));
       }
 
   sim_file : length text ≤ MAX_VERILOG_BYTES → length file ≤ MAX_PGM_BYTES → IsSimulated (drive_from fill clocks) text file (output_file q rounds)
@@ -137,7 +137,7 @@ module _ (laws : Laws) (source : List ℕ) (age : ℕ) (enable : Bool) (block : 
       let first : IsShown m (drive_from fill clocks) other.size (samples_of other.images) pictures = subst (λ (n : NamedNetlist). IsShown n.netlist (drive_from fill clocks) other.size (samples_of other.images) pictures) same other.shown in
       let second : IsShown m (drive_from fill clocks) q.size (samples_of other.images) pictures = subst (λ z. IsShown m (drive_from fill clocks) z (samples_of other.images) pictures) both.0 first in
       let third : IsShown m (drive_from fill clocks) q.size (samples_of rounds) pictures = subst (λ z. IsShown m (drive_from fill clocks) q.size (samples_of z) pictures) both.1 second in
-      drive_file source age enable block q c.ir c.system c.solution c.plan c.«module» c.nets.items c.text.items from.is file rounds fits fill laws.picture laws.rasters clocks refl pictures third
+      drive_file source age enable block q c.ir c.system c.solution c.plan c.«module» c.nets.items c.reads.items c.text.items from.is file rounds fits fill laws.picture laws.rasters clocks refl pictures third
 
 -- what `sim` shows of a text that is compiled, by any plan of its program
 module _ (laws : Laws) (given : CompiledInput) (power : PowerUp) where

@@ -51,7 +51,7 @@ module _ (source : List ℕ) (age : ℕ) (c : Compiled) (from : IsCompiledFrom s
     same_size = sized ∙ (from.is.planned.has.front).form.size
 
     same_rounds : rounds_of rounds ≡ samples_of images
-    same_rounds = bench_rounds source age false None q c.ir c.system c.solution c.plan c.«module» c.nets.items c.text.items from.is file images fits rounds frames
+    same_rounds = bench_rounds source age false None q c.ir c.system c.solution c.plan c.«module» c.nets.items c.reads.items c.text.items from.is file images fits rounds frames
 
     same_drive : (d : Drive) → d ≡ frame_drive size (latency c.plan) (length rounds) → d ≡ drive_of clocks
     same_drive d is = is ∙ (ap (λ n. frame_drive size (latency c.plan) n) as_many ∙ ap (λ s. frame_drive s (latency c.plan) (length images)) same_size)
@@ -59,12 +59,12 @@ module _ (source : List ℕ) (age : ℕ) (c : Compiled) (from : IsCompiledFrom s
     module _ (picture_law : PictureLaw) (raster_law : RasterLaw) (d : Drive) (is : d ≡ frame_drive size (latency c.plan) (length rounds)) where
       never : (stop : Stop) → IsStop m.netlist d size (rounds_of rounds) stop → ⊥
       never stop h =
-          never_stops source age false None q c.ir c.system c.solution c.plan c.«module» c.nets.items c.text.items from.is file images fits Zeros picture_law raster_law clocks refl stop
+          never_stops source age false None q c.ir c.system c.solution c.plan c.«module» c.nets.items c.reads.items c.text.items from.is file images fits Zeros picture_law raster_law clocks refl stop
           (moved (λ n e s x. IsStop n.netlist e s x stop) m c.«module» d (drive_of clocks) size q.size (rounds_of rounds) (samples_of images) again (same_drive d is) same_size same_rounds h)
 
       shown : (output : List ℕ) → IsShown m.netlist d size (rounds_of rounds) output → output ≡ output_file q images
       shown output h =
-          drive_file source age false None q c.ir c.system c.solution c.plan c.«module» c.nets.items c.text.items from.is file images fits Zeros picture_law raster_law clocks refl output
+          drive_file source age false None q c.ir c.system c.solution c.plan c.«module» c.nets.items c.reads.items c.text.items from.is file images fits Zeros picture_law raster_law clocks refl output
           (moved (λ n e s x. IsShown n.netlist e s x output) m c.«module» d (drive_of clocks) size q.size (rounds_of rounds) (samples_of images) again (same_drive d is) same_size same_rounds h)
 
       noted : (old new : Option (List (Bool × ℕ))) (notes : List (Bool × ℕ)) → AreNotes m.netlist d (rounds_of rounds) notes → IsIfTold new (option_map (λ before. before ++ notes) old) → NotesRun source age q images old new
@@ -82,7 +82,7 @@ module _ (source : List ℕ) (age : ℕ) (c : Compiled) (from : IsCompiledFrom s
 
   pub bench_of : AreRead c.ir rounds → AreBenchFrames (din_widths m.netlist) size rounds
   bench_of read =
-      let frames = bench_frames source age false None q c.ir c.system c.solution c.plan c.«module» c.nets.items c.text.items from.is read.file read.images (there read) rounds read.frames read.each in
+      let frames = bench_frames source age false None q c.ir c.system c.solution c.plan c.«module» c.nets.items c.reads.items c.text.items from.is read.file read.images (there read) rounds read.frames read.each in
       subst (λ (n : NamedNetlist). AreBenchFrames (din_widths n.netlist) size rounds) (sym again) (subst (λ (s : Size). AreBenchFrames (din_widths (c.«module»).netlist) s rounds) (sym (sized ∙ (from.is.planned.has.front).form.size)) frames)
 
   pub never_of : PictureLaw → RasterLaw → (d : Drive) → d ≡ frame_drive size (latency c.plan) (length rounds) → AreRead c.ir rounds → (stop : Stop) → IsStop m.netlist d size (rounds_of rounds) stop → ⊥

@@ -14,7 +14,7 @@ use Rattle.dk_top.specs.Output.{output_file}
 use Rattle.dk_endings.specs.declared.ending.Ending.{Ending}
 use Rattle.dk_endings.specs.declared.ending.Ending.TheVariants as ending
 use Rattle.dk_top.specs.Verdict.{Terms, Files, bytes_of, eval_terms, OfPair, OnFiles, IsVerdict}
-use Rattle.dk_top.specs.Command.{Command, run, eval, compile, sim, trace, plan, check, make, rewrite, explain}
+use Rattle.dk_top.specs.Command.{Command, run, eval, compile, sim, trace, plan, check, make, rewrite, explain, nets}
 use Rattle.dk_desk.specs.declared.Stage.{Stage}
 use Rattle.dk_top.specs.State.{AsksInOrder, CreatesBy, ReadsBy, IsNoted, IsReported}
 use Rattle.dk_top.specs.Reading.{AreRead, IsRead}
@@ -52,6 +52,7 @@ same_order (trace v c i o) f mid new same h = λ asked. h (subst (λ (s : Input)
 same_order (make n) f mid new same h = tt
 same_order (sim v c i o p k) f mid new same h = λ asked. h (subst (λ (s : Input). s.stage ≢ Unasked) same asked)
 same_order (plan p a) f mid new same h = tt
+same_order (nets p e a b) f mid new same h = tt
 same_order (explain p) f mid new same h = tt
 same_order (check p r) f mid new same h = λ asked. h (subst (λ (s : Input). s.stage ≢ Unasked) same asked)
 
@@ -71,8 +72,10 @@ on_all (sim v c i o p h') (Some f) P h = h f
 on_all (trace v c i o) None P h = tt
 on_all (trace v c i o) (Some f) P h = h f
 on_all (plan p a) None P h = tt
+on_all (nets p e a b) None P h = tt
 on_all (explain p) None P h = tt
 on_all (plan p a) (Some f) P h = h f
+on_all (nets p e a b) (Some f) P h = h f
 on_all (explain p) (Some f) P h = h f
 on_all (check p r) None P h = tt
 on_all (check p r) (Some f) P h = h f
@@ -93,8 +96,10 @@ on_each (sim v c i o p h') (Some f) P Q g h = g f h
 on_each (trace v c i o) None P Q g h = tt
 on_each (trace v c i o) (Some f) P Q g h = g f h
 on_each (plan p a) None P Q g h = tt
+on_each (nets p e a b) None P Q g h = tt
 on_each (explain p) None P Q g h = tt
 on_each (plan p a) (Some f) P Q g h = g f h
+on_each (nets p e a b) (Some f) P Q g h = g f h
 on_each (explain p) (Some f) P Q g h = g f h
 on_each (check p r) None P Q g h = tt
 on_each (check p r) (Some f) P Q g h = g f h
@@ -113,6 +118,7 @@ memory_verdict (trace v c i o) f = tt
 memory_verdict (make n) f = tt
 memory_verdict (sim v c i o p h) f = tt
 memory_verdict (plan p a) f = tt
+memory_verdict (nets p e a b) f = tt
 memory_verdict (explain p) f = tt
 memory_verdict (check p r) f = tt
 
@@ -130,6 +136,7 @@ unasked_order (trace v c i out) f o fresh = λ asked. absurd (asked fresh)
 unasked_order (make n) f o fresh = tt
 unasked_order (sim v c i out p h) f o fresh = λ asked. absurd (asked fresh)
 unasked_order (plan p a) f o fresh = tt
+unasked_order (nets p e a b) f o fresh = tt
 unasked_order (explain p) f o fresh = tt
 unasked_order (check p r) f o fresh = λ asked. absurd (asked fresh)
 
@@ -146,6 +153,7 @@ usage_report (trace v c i o) f stored r = refl
 usage_report (make n) f stored r = refl
 usage_report (sim v c i o p h) f stored r = refl
 usage_report (plan p a) f stored r = refl
+usage_report (nets p e a b) f stored r = refl
 usage_report (explain p) f stored r = refl
 usage_report (check p t) f stored r = refl
 
@@ -158,6 +166,7 @@ memory_report (trace v c i o) f stored r = refl
 memory_report (make n) f stored r = refl
 memory_report (sim v c i o p h) f stored r = refl
 memory_report (plan p a) f stored r = refl
+memory_report (nets p e a b) f stored r = refl
 memory_report (explain p) f stored r = refl
 memory_report (check p t) f stored r = refl
 
@@ -175,6 +184,7 @@ usage_notes (trace v c i o) f n = refl
 usage_notes (make k) f n = tt
 usage_notes (sim v c i o p h) f n = tt
 usage_notes (plan p a) f n = refl
+usage_notes (nets p e a b) f n = refl
 usage_notes (explain p) f n = refl
 usage_notes (check p t) f n = refl
 
@@ -187,6 +197,7 @@ memory_notes (trace v c i o) f n = refl
 memory_notes (make k) f n = tt
 memory_notes (sim v c i o p h) f n = tt
 memory_notes (plan p a) f n = refl
+memory_notes (nets p e a b) f n = refl
 memory_notes (explain p) f n = refl
 memory_notes (check p t) f n = refl
 
@@ -204,6 +215,7 @@ usage_begun (trace v c i o) f s = tt
 usage_begun (make k) f s = tt
 usage_begun (sim v c i o p h) f s = tt
 usage_begun (plan p a) f s = tt
+usage_begun (nets p e a b) f s = tt
 usage_begun (explain p) f s = tt
 usage_begun (check p t) f s = tt
 
@@ -216,6 +228,7 @@ memory_begun (trace v c i o) f s = tt
 memory_begun (make k) f s = tt
 memory_begun (sim v c i o p h) f s = tt
 memory_begun (plan p a) f s = tt
+memory_begun (nets p e a b) f s = tt
 memory_begun (explain p) f s = tt
 memory_begun (check p t) f s = tt
 
@@ -233,6 +246,7 @@ usage_reads (trace v c i o) f slot s = tt
 usage_reads (make k) f slot s = tt
 usage_reads (sim v c i o p h) f slot s = tt
 usage_reads (plan p a) f slot s = tt
+usage_reads (nets p e a b) f slot s = tt
 usage_reads (explain p) f slot s = tt
 usage_reads (check p t) f slot s = tt
 
@@ -245,6 +259,7 @@ memory_reads (trace v c i o) f slot s = tt
 memory_reads (make k) f slot s = tt
 memory_reads (sim v c i o p h) f slot s = tt
 memory_reads (plan p a) f slot s = tt
+memory_reads (nets p e a b) f slot s = tt
 memory_reads (explain p) f slot s = tt
 memory_reads (check p t) f slot s = tt
 

@@ -87,7 +87,7 @@ whole_within r n a lt =
     let more = suc-mul r a in
     omega (arith, fits, more)
 
-module _ (source : List ℕ) (age : ℕ) (enable : Bool) (block : Option ℕ) (p : Typing) (ir : Program) (system : System) (solution : Solution) (plan : Plan) (m : NamedNetlist) (nets : List Net) (verilog : List ℕ) (c : IsCompiled source age enable block p ir system solution plan m nets verilog) where
+module _ (source : List ℕ) (age : ℕ) (enable : Bool) (block : Option ℕ) (p : Typing) (ir : Program) (system : System) (solution : Solution) (plan : Plan) (m : NamedNetlist) (nets reads : List Net) (verilog : List ℕ) (c : IsCompiled source age enable block p ir system solution plan m nets reads verilog) where
   front : IsFront source p ir system.stencils
   front = c.planned.has.front
 

@@ -20,7 +20,7 @@ use Rattle.dk_top.specs.Compiling.{IsCompiledFrom}
 use Rattle.dk_top.specs.Verdict.{Files, bytes_of, OnFiles, IsRunAnswer}
 use Rattle.dk_words.specs.declared.command.Rewriting.{Rewriting}
 use Rattle.dk_words.specs.declared.command.Rewriting.TheVariants.{Cut, Narrow, Widen}
-use Rattle.dk_top.specs.Command.{Command, run, eval, compile, sim, trace, plan, check, make, rewrite, explain}
+use Rattle.dk_top.specs.Command.{Command, run, eval, compile, sim, trace, plan, check, make, rewrite, explain, nets}
 use Rattle.dk_top.specs.State.{LeavesRest, LeavesText, LeavesImages, LeavesBoth, TakesNoMore, AsksWhere, AsksWhereModule}
 use Rattle.dk_top.specs.Reading.{IsSourceEnding, IsUnread, TellsNoText, TellsNoImages, IsRewriteEnding}
 use Rattle.dk_top.specs.Simulating.{IsModuleEnding}
@@ -225,6 +225,7 @@ usage_left (trace v c im o) f i j = (tt, tt)
 usage_left (make k) f i j = tt
 usage_left (sim v c im o p h) f i j = (tt, tt)
 usage_left (plan p a) f i j = tt
+usage_left (nets p e a b) f i j = tt
 usage_left (explain p) f i j = tt
 usage_left (check p t) f i j = (tt, tt)
 
@@ -237,6 +238,7 @@ memory_left (trace v c im o) f i j = (tt, tt)
 memory_left (make k) f i j = tt
 memory_left (sim v c im o p h) f i j = (tt, tt)
 memory_left (plan p a) f i j = tt
+memory_left (nets p e a b) f i j = tt
 memory_left (explain p) f i j = tt
 memory_left (check p t) f i j = (tt, tt)
 

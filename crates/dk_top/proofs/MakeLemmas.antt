@@ -70,7 +70,7 @@ module _ (source : List ℕ) (age : ℕ) (c : Compiled) (from : IsCompiledFrom s
       let out = output_at (types_of p) p.outputs typed.outputs k g at in
       let bits : width_of out.ty ≡ bits_of (types_of p) g = bits_are (types_of p) g out.ty out.image in
       let there : slice_get (P.types_of c.ir) g ≡ Some out.ty = subst (λ (ts : List Ty). slice_get ts g ≡ Some out.ty) (sym (from.is.planned.has.front).form.types) out.image in
-      let shown = meant source age false None p c.ir c.system c.solution c.plan c.«module» c.nets.items c.text.items from.is given ok k g at in
+      let shown = meant source age false None p c.ir c.system c.solution c.plan c.«module» c.nets.items c.reads.items c.text.items from.is given ok k g at in
       let low = raster_bounded c.ir.size out.ty (picture_at (pictures c.ir (map (picture_of c.ir.size) given)) g) out.port (values (map (picture_of c.ir.size) given) ok g out.ty there).values in
       let some = port_some out.ty out.port in
       let small = greatest_small (width_of out.ty) (few_bits out.ty out.port) in
@@ -98,7 +98,7 @@ module _ (source : List ℕ) (age : ℕ) (c : Compiled) (from : IsCompiledFrom s
   all_rounds [] sampled = tt
   all_rounds (r ∷ rs) sampled =
       let given = map (λ (i : Image). i.samples) r in
-      let ok = is_round c.ir (types source age false None p c.ir c.system c.solution c.plan c.«module» c.nets.items c.text.items from.is) given sampled.0 in
+      let ok = is_round c.ir (types source age false None p c.ir c.system c.solution c.plan c.«module» c.nets.items c.reads.items c.text.items from.is) given sampled.0 in
       all_append (IsSummed p.size) (outputs_of p r) (joined (map (outputs_of p) rs))
       (all_places (IsSummed p.size) (λ g. output_of p.size (bits_of (types_of p) g) (picture_at (meaning_on p given) g)) p.outputs (λ k g at. one_output given ok k g at))
       (all_rounds rs sampled.1)

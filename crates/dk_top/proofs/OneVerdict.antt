@@ -5,7 +5,7 @@ use Rattle.dk_endings.specs.declared.ending.Ending.TheVariants as ending
 use Rattle.source_fault.specs.declared.widen.WidenFault.{WidenFault}
 use Rattle.source_fault.specs.declared.widen.WidenFault.TheVariants as fault
 use Rattle.dk_words.specs.declared.command.Rewriting.TheVariants.{Cut, Narrow, Widen}
-use Rattle.dk_top.specs.Command.{Command, run, eval, compile, sim, trace, plan, check, make, rewrite, explain}
+use Rattle.dk_top.specs.Command.{Command, run, eval, compile, sim, trace, plan, check, make, rewrite, explain, nets}
 use Rattle.made_program.specs.Programs.{program_of}
 use Rattle.dk_top.specs.Simulation.{drive_of}
 use Rattle.dk_top.proofs.CommandLemmas.{on_each}
@@ -67,6 +67,7 @@ one_verdict l (sim verilog clocks image out fill hold) files a b j k x y =
 one_verdict l (trace verilog clocks image vcd) files a b j k x y =
     trace_answer l.one_module l.agree l.module_apart l.tokens l.tree l.rounds l.rounds_apart l.bench_fault l.one_stop l.shown_apart (trace_drive clocks) (bytes_of files verilog) (bytes_of files image) l.run_apart a b j k x y
 one_verdict l (plan program age) files a b j k x y = alike_of a b (program_answer l.apart_at l.fault_at age (bytes_of files program) a b j k x y)
+one_verdict l (nets program enable age block) files a b j k x y = alike_of a b (program_answer l.apart_at l.fault_at age (bytes_of files program) a b j k x y)
 one_verdict l (explain program) files a b j k x y = alike_of a b (explain_answer l.apart_at l.fault_at (bytes_of files program) a b j k x y)
 one_verdict l (check program report) files a b j k x y =
     alike_of a b (check_answer l.front_accepted l.text_apart l.one_text l.wrong_apart l.one_line (bytes_of files program) (bytes_of files report) a b j k x y)
@@ -81,6 +82,7 @@ good_verdict (compile program out enable age block) files good = good
 good_verdict (sim verilog clocks image out fill hold) files good = good
 good_verdict (trace verilog clocks image vcd) files good = good
 good_verdict (plan program age) files good = good
+good_verdict (nets program enable age block) files good = good
 good_verdict (explain program) files good = good
 good_verdict (check program report) files good = good
 good_verdict (make number) files good = good
@@ -94,6 +96,7 @@ no_usage (compile program out enable age block) files is = is
 no_usage (sim verilog clocks image out fill hold) files is = is
 no_usage (trace verilog clocks image vcd) files is = is
 no_usage (plan program age) files is = is
+no_usage (nets program enable age block) files is = is
 no_usage (explain program) files is = is
 no_usage (check program report) files is = is
 no_usage (make number) files is = is
@@ -107,6 +110,7 @@ well (compile program out enable age block) e h = h
 well (sim verilog clocks image out fill hold) e h = h
 well (trace verilog clocks image vcd) e h = h
 well (plan program age) e h = h
+well (nets program enable age block) e h = h
 well (explain program) e h = h
 well (check program report) e h = h
 well (make number) e h = h
@@ -126,6 +130,7 @@ refused_well one (compile program out enable age block) files good f is = absurd
 refused_well one (sim verilog clocks image out fill hold) files good f is = absurd is
 refused_well one (trace verilog clocks image vcd) files good f is = absurd is
 refused_well one (plan program age) files good f is = absurd is
+refused_well one (nets program enable age block) files good f is = absurd is
 refused_well one (explain program) files good f is = absurd is
 refused_well one (check program report) files good f is = absurd is
 refused_well one (make number) files good f is = absurd is

@@ -1,5 +1,5 @@
 -- What `plan` and `check` read, and what they write to Report.
-use Rattle.std.proofs.Common.{◌≡◌, ℕ, List, length, Option, None, Some, IfSome, refl, sym, subst, arith}
+use Rattle.std.proofs.Common.{◌≡◌, ℕ, Bool, List, length, Option, None, Some, IfSome, refl, sym, subst, arith}
 use Rattle.std.proofs.Math.Seq.{take-length}
 use Rattle.dk_base.specs.Stencils.{Stencils}
 use Rattle.dk_desk.specs.Calls.{IsIfTold, grown}
@@ -9,6 +9,7 @@ use Rattle.dk_endings.specs.declared.ending.Ending.{Ending}
 use Rattle.dk_endings.specs.declared.ending.Ending.TheVariants as ending
 use Rattle.dk_endings.specs.Lines.{holds_line}
 use Rattle.dk_top.specs.Plans.{IsPlanOf}
+use Rattle.dk_top.specs.Compiling.{AreNetLines}
 use Rattle.dk_top.specs.Reports.{IsChecked}
 use Rattle.dk_compile.specs.Sources.{IsAccepted}
 use Rattle.dk_top.specs.Verdict.{Files, bytes_of, IsCheckAnswer}
@@ -75,6 +76,11 @@ front is text old new of r = record {
 pub plan_whole : (told : Option Files) (name : List ℕ) (age : ℕ) (text : List ℕ) (old new : Option (List ℕ)) → IfSome told (λ f. IsPlanOf (bytes_of f name) age text) → IsIfTold new (grown old text) → IfSome told (λ f. GainsText (IsPlanOf (bytes_of f name) age) old new ending.Done)
 plan_whole None name age text old new of written = tt
 plan_whole (Some f) name age text old new of written = whole (IsPlanOf (bytes_of f name) age) text old new of written
+
+pub nets_whole : (told : Option Files) (name : List ℕ) (age : ℕ) (enable : Bool) (block : Option ℕ) (text : List ℕ) (old new : Option (List ℕ)) → IfSome told (λ f. AreNetLines (bytes_of f name) age enable block text) → IsIfTold new (grown old text)
+    → IfSome told (λ f. GainsText (AreNetLines (bytes_of f name) age enable block) old new ending.Done)
+nets_whole None name age enable block text old new of written = tt
+nets_whole (Some f) name age enable block text old new of written = whole (AreNetLines (bytes_of f name) age enable block) text old new of written
 
 pub claim_whole : (told : Option Files) (program report : List ℕ) (claim : Claim) (text : List ℕ) (old new : Option (List ℕ)) → IfSome told (λ f. IsChecked (bytes_of f program) (bytes_of f report) claim) → text ≡ holds_line claim.bits claim.latency → IsIfTold new (grown old text)
     → IfSome told (λ f. GainsText (IsClaimLine (bytes_of f program) (bytes_of f report)) old new ending.Done)

@@ -82,14 +82,14 @@ module _ (source : List ℕ) (age : ℕ) (c : Compiled) (from : IsCompiledFrom s
       one_port_with ws = record { size = q.size; inputs = ws }
 
   pub one_count : output_count m ≡ 1
-  one_count = D.outputs_are source age false None q c.ir c.system c.solution c.plan c.«module» c.nets.items c.text.items from.is ∙ one.output
+  one_count = D.outputs_are source age false None q c.ir c.system c.solution c.plan c.«module» c.nets.items c.reads.items c.text.items from.is ∙ one.output
 
   -- the output's greatest sample
   pub greatest_is : 2 ^ net_width m (dout_net 0) - 1 ≡ (output_kind q).maxval
   greatest_is =
       let (g, only) = only_item q.outputs one.output in
       let at : slice_get q.outputs 0 ≡ Some g = ap (λ gs. slice_get gs 0) only in
-      ap (λ n. 2 ^ n - 1) (D.dout_width_is source age false None q c.ir c.system c.solution c.plan c.«module» c.nets.items c.text.items from.is 0 g at ∙ ap (λ gs. bits_of (types_of q) (slice_index_or gs 0 0)) (sym only))
+      ap (λ n. 2 ^ n - 1) (D.dout_width_is source age false None q c.ir c.system c.solution c.plan c.«module» c.nets.items c.reads.items c.text.items from.is 0 g at ∙ ap (λ gs. bits_of (types_of q) (slice_index_or gs 0 0)) (sym only))
 
   module _ (file : List ℕ) (images : List Image) (bytes : List ℕ) (fits : FitsFile (ports q) file (rounds_of_images images)) (long : length (samples_of images) ≡ length images * q.size.height * q.size.width) where
     abbrev late : ℕ
@@ -124,11 +124,11 @@ module _ (source : List ℕ) (age : ℕ) (c : Compiled) (from : IsCompiledFrom s
 
     clocks_same : stimulus (frame_drive q.size late (length (rounds_of_images images))) (din_widths m) (bench_samples (rounds_of_images images)) ≡ drive numbers
     clocks_same =
-        let widths_one : length (din_widths m) ≡ 1 = D.dins_long source age false None q c.ir c.system c.solution c.plan c.«module» c.nets.items c.text.items from.is ∙ inputs_one in
+        let widths_one : length (din_widths m) ≡ 1 = D.dins_long source age false None q c.ir c.system c.solution c.plan c.«module» c.nets.items c.reads.items c.text.items from.is ∙ inputs_one in
         D.stimulus_is (din_widths m) (bench_samples (rounds_of_images images)) 1 clocks widths_one ∙ (ap (λ ds. driven 1 ds) dins_are ∙ sym (clocks_are numbers))
       where
         inputs_one : length c.ir.inputs ≡ 1
-        inputs_one = Rattle.dk_top.proofs.StreamLemmas.one_input source age false None q c.ir c.system c.solution c.plan c.«module» c.nets.items c.text.items from.is (first_bits q) inputs one.output
+        inputs_one = Rattle.dk_top.proofs.StreamLemmas.one_input source age false None q c.ir c.system c.solution c.plan c.«module» c.nets.items c.reads.items c.text.items from.is (first_bits q) inputs one.output
 
     module _ (picture_law : PictureLaw) (raster_law : RasterLaw) (shots : List Snapshot) (to : Rattle.wiring.specs.Snapshot.Contents) (runs : Runs m (filled_contents Zeros m) (drive numbers) shots to) where
       abbrev bench : Rattle.stimulus.specs.declared.drive.Drive.Drive
@@ -138,14 +138,14 @@ module _ (source : List ℕ) (age : ℕ) (c : Compiled) (from : IsCompiledFrom s
       run = record { to = to; runs = subst (λ cs. Runs m (filled_contents Zeros m) cs shots to) (sym clocks_same) runs }
 
       images_are : images_shown m q.size (length (bench_samples (rounds_of_images images))) shots ≡ Rattle.pgm_rounds.specs.Files.joined (map (outputs_of q) (rounds_of_images images))
-      images_are = D.images_same source age false None q c.ir c.system c.solution c.plan c.«module» c.nets.items c.text.items from.is file (rounds_of_images images) fits Zeros picture_law raster_law clocks refl shots run
+      images_are = D.images_same source age false None q c.ir c.system c.solution c.plan c.«module» c.nets.items c.reads.items c.text.items from.is file (rounds_of_images images) fits Zeros picture_law raster_law clocks refl shots run
 
       many : length (picture 0 shots) ≡ length images * q.size.height * q.size.width
       many =
           let o = one.output in
           let first : 0 < length q.outputs = omega (arith, o) in
-          let lone : latency_of c.plan 0 ≡ late = Rattle.dk_top.proofs.DrivePorts.latency_of_one c.plan (ap length (D.planned_outputs source age false None q c.ir c.system c.solution c.plan c.«module» c.nets.items c.text.items from.is) ∙ one.output) in
-          D.shown_count source age false None q c.ir c.system c.solution c.plan c.«module» c.nets.items c.text.items from.is file (rounds_of_images images) fits Zeros picture_law raster_law clocks refl shots run 0 first
+          let lone : latency_of c.plan 0 ≡ late = Rattle.dk_top.proofs.DrivePorts.latency_of_one c.plan (ap length (D.planned_outputs source age false None q c.ir c.system c.solution c.plan c.«module» c.nets.items c.reads.items c.text.items from.is) ∙ one.output) in
+          D.shown_count source age false None q c.ir c.system c.solution c.plan c.«module» c.nets.items c.reads.items c.text.items from.is file (rounds_of_images images) fits Zeros picture_law raster_law clocks refl shots run 0 first
           ∙ (ap (λ k. clocks - k) lone ∙ ((let e : clocks - late ≡ length (rounds_of_images images) * area q.size = omega arith in e) ∙ (ap (λ k. k * area q.size) n_is ∙ sym (area_turned (length images)))))
 
       -- one image of the picture for each round

@@ -65,7 +65,7 @@ only_item [] one = absurd (let e : ⊥ = omega (arith, one) in e)
 only_item (x ∷ []) one = (x, refl)
 only_item (x ∷ y ∷ xs) one = absurd (let e : ⊥ = omega (arith, one) in e)
 
-module _ (source : List ℕ) (age : ℕ) (enable : Bool) (block : Option ℕ) (p : Typing) (ir : Program) (system : System) (solution : Solution) (plan : Plan) (m : NamedNetlist) (nets : List Net) (verilog : List ℕ) (c : IsCompiled source age enable block p ir system solution plan m nets verilog) (bits : ℕ) (inputs : (ports p).inputs ≡ bits ∷ []) (outputs : length p.outputs ≡ 1) where
+module _ (source : List ℕ) (age : ℕ) (enable : Bool) (block : Option ℕ) (p : Typing) (ir : Program) (system : System) (solution : Solution) (plan : Plan) (m : NamedNetlist) (nets reads : List Net) (verilog : List ℕ) (c : IsCompiled source age enable block p ir system solution plan m nets reads verilog) (bits : ℕ) (inputs : (ports p).inputs ≡ bits ∷ []) (outputs : length p.outputs ≡ 1) where
   -- the module has one din of this width
   pub one_width : input_widths ir ≡ bits ∷ []
   one_width = sym (widths_same p ir (D.form source age enable block p ir system solution plan m nets verilog c)) ∙ inputs

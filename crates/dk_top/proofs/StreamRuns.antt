@@ -269,17 +269,17 @@ module _ (law : PlannedAccepted) (one_program : OneProgram) (one_rounds : (ports
   accepted = compiled_accepted law source age false None c from
 
   wide : 0 < q.size.width
-  wide = (D.is_typed source age false None q c.ir c.system c.solution c.plan c.«module» c.nets.items c.text.items from.is).frame.some_columns
+  wide = (D.is_typed source age false None q c.ir c.system c.solution c.plan c.«module» c.nets.items c.reads.items c.text.items from.is).frame.some_columns
 
   tall : 0 < q.size.height
-  tall = (D.is_typed source age false None q c.ir c.system c.solution c.plan c.«module» c.nets.items c.text.items from.is).frame.some_rows
+  tall = (D.is_typed source age false None q c.ir c.system c.solution c.plan c.«module» c.nets.items c.reads.items c.text.items from.is).frame.some_rows
 
   shows_law : ShowsLaw m zeros bits late (shown_by q)
   shows_law samples whole small small_whole same few shots to runs =
-      S.stream_shown source age false None q c.ir c.system c.solution c.plan c.«module» c.nets.items c.text.items from.is bits (inputs source age c from one) one.output picture_law raster_law samples whole small small_whole same few zeros to shots (power_up_fits m) runs
+      S.stream_shown source age false None q c.ir c.system c.solution c.plan c.«module» c.nets.items c.reads.items c.text.items from.is bits (inputs source age c from one) one.output picture_law raster_law samples whole small small_whole same few zeros to shots (power_up_fits m) runs
 
   long : (whole : List ℕ) → length whole ≤ length (shown_by q whole)
-  long whole = S.shown_long source age false None q c.ir c.system c.solution c.plan c.«module» c.nets.items c.text.items from.is bits (inputs source age c from one) one.output whole
+  long whole = S.shown_long source age false None q c.ir c.system c.solution c.plan c.«module» c.nets.items c.reads.items c.text.items from.is bits (inputs source age c from one) one.output whole
 
   some_inputs : 0 < length (ports q).inputs
   some_inputs = let e = ap length (inputs source age c from one) in omega (arith, e)

@@ -72,10 +72,10 @@ module _ (source : List ℕ) (age : ℕ) (c : Compiled) (from : IsCompiledFrom s
   bits = first_bits q
 
   widths : Rattle.circuit.specs.Driven.input_widths c.ir ≡ bits ∷ []
-  widths = S.one_width source age false None q c.ir c.system c.solution c.plan c.«module» c.nets.items c.text.items from.is bits (inputs source age c from one) one.output
+  widths = S.one_width source age false None q c.ir c.system c.solution c.plan c.«module» c.nets.items c.reads.items c.text.items from.is bits (inputs source age c from one) one.output
 
   pub dins : din_widths m ≡ bits ∷ []
-  dins = D.din_widths_are source age false None q c.ir c.system c.solution c.plan c.«module» c.nets.items c.text.items from.is ∙ widths
+  dins = D.din_widths_are source age false None q c.ir c.system c.solution c.plan c.«module» c.nets.items c.reads.items c.text.items from.is ∙ widths
 
   pub inputs_are : m.inputs ≡ 1 ∷ bits ∷ []
   inputs_are = from.is.circuit.ports.inputs ∙ ap (λ ws. 1 ∷ ws) widths
@@ -89,7 +89,7 @@ module _ (source : List ℕ) (age : ℕ) (c : Compiled) (from : IsCompiledFrom s
   fit s low = subst (λ ws. Fit ws (s ∷ [])) (sym dins) (let some = pow_pos bits in omega (arith, low, some), tt)
 
   pub few_bits : bits ≤ MAX_PORT_WIDTH
-  few_bits = by q.inputs one.input (D.is_typed source age false None q c.ir c.system c.solution c.plan c.«module» c.nets.items c.text.items from.is).inputs
+  few_bits = by q.inputs one.input (D.is_typed source age false None q c.ir c.system c.solution c.plan c.«module» c.nets.items c.reads.items c.text.items from.is).inputs
     where
       by : (is : List TypedInput) → length is ≡ 1 → ArePorts is → slice_index_or (map width_of (map (λ (i : TypedInput). i.ty) is)) 0 0 ≤ MAX_PORT_WIDTH
       by [] none h = absurd (let e : ⊥ = omega (arith, none) in e)
@@ -100,10 +100,10 @@ module _ (source : List ℕ) (age : ℕ) (c : Compiled) (from : IsCompiledFrom s
   dout =
       let (g, only) = S.only_item q.outputs one.output in
       let at : slice_get q.outputs 0 ≡ Some g = ap (λ gs. slice_get gs 0) only in
-      let typed = D.is_typed source age false None q c.ir c.system c.solution c.plan c.«module» c.nets.items c.text.items from.is in
+      let typed = D.is_typed source age false None q c.ir c.system c.solution c.plan c.«module» c.nets.items c.reads.items c.text.items from.is in
       let is = output_typed (types_of q) q.outputs typed.outputs 0 g at in
       let w : bits_of (types_of q) g ≡ width_of is.ty = ap width_of (read_at (types_of q) g is.ty (Unsigned 0) is.image) in
-      let e = D.dout_width_is source age false None q c.ir c.system c.solution c.plan c.«module» c.nets.items c.text.items from.is 0 g at ∙ w in
+      let e = D.dout_width_is source age false None q c.ir c.system c.solution c.plan c.«module» c.nets.items c.reads.items c.text.items from.is 0 g at ∙ w in
       let p = port_width is.ty is.port in
       (subst (λ n. 1 ≤ n) (sym e) p.0, subst (λ n. n ≤ MAX_PORT_WIDTH) (sym e) p.1)
 

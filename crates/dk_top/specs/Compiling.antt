@@ -12,17 +12,24 @@ use Rattle.stimulus.specs.Showing.{IsNoted as AreNotes}
 use Rattle.dk_types.specs.Typed.{Typing}
 use Rattle.dk_compile.specs.declared.compiling.Compiled.{Compiled}
 use Rattle.dk_compile.specs.Compiled.{IsCompiled}
+use Rattle.net_lines.specs.Lines.{net_lines}
 
 -- This is what the text is compiled to at an age, with the port `en` or without it.
 pub record IsCompiledFrom (source : List ℕ) (age : ℕ) (enable : Bool) (block : Option ℕ) (c : Compiled) : Type 0 where
   pub program : Typing
-  pub is : IsCompiled source age enable block program c.ir c.system c.solution c.plan c.«module» c.nets.items c.text.items
+  pub is : IsCompiled source age enable block program c.ir c.system c.solution c.plan c.«module» c.nets.items c.reads.items c.text.items
 
 -- a Verilog text of the program's circuit
 pub record IsCompiledText (source : List ℕ) (age : ℕ) (enable : Bool) (block : Option ℕ) (text : List ℕ) : Type 0 where
   pub compiled : Compiled
   pub from : IsCompiledFrom source age enable block compiled
   pub is : text ≡ compiled.text.items
+
+-- the lines that name the nets of a module that the text is compiled to
+pub record AreNetLines (source : List ℕ) (age : ℕ) (enable : Bool) (block : Option ℕ) (lines : List ℕ) : Type 0 where
+  pub compiled : Compiled
+  pub from : IsCompiledFrom source age enable block compiled
+  pub are : lines ≡ net_lines compiled.ir compiled.plan compiled.«module» compiled.nets.items compiled.reads.items
 
 -- how a module is driven with this many rounds of frames: from zeros, with a clock for each pixel, and then those of the latency
 abbrev pub frame_drive : Size → (latency rounds : ℕ) → Drive

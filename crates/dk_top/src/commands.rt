@@ -5,6 +5,7 @@ mod compiling;
 mod cutting;
 mod evaluating;
 mod explaining;
+mod listing;
 mod making;
 mod narrowing;
 mod planning;

@@ -5,10 +5,10 @@ use Rattle.dk_words.specs.declared.TheConstants.{MAX_LEVELS, MAX_PHASES}
 use Rattle.clap.specs.Walk.{Text}
 use Rattle.dk_words.specs.Words.{is_like_option}
 use Rattle.dk_words.specs.Numbers.{padded_decimal}
-use Rattle.dk_words.specs.Command.{age_number, block_number, clocks_of, command_of, compile, hold_number, levels_number, made_number, make, phases_number, plan, rewrite, run, sim, trace}
+use Rattle.dk_words.specs.Command.{age_number, block_number, clocks_of, command_of, compile, hold_number, levels_number, made_number, make, nets, phases_number, plan, rewrite, run, sim, trace}
 use Rattle.dk_words.specs.declared.command.Rewriting.TheVariants.{Cut, Widen}
 use Rattle.dk_words.specs.declared.command.PowerUp.TheVariants.{Zeros, Ones}
-use Rattle.dk_words.proofs.FileWords.{age_first_reads, age_last_reads, block_first_reads, block_last_reads, both_first_reads, both_last_reads, both_reads, compile_age_first_reads, compile_age_last_reads, cut_reads, cut_reads_after, hold_reads, make_reads, make_reads_after, ones_reads, run_age_first_reads, run_age_last_reads, sim_reads, sim_reads_after, trace_reads, trace_reads_after, widen_reads, widen_reads_after}
+use Rattle.dk_words.proofs.FileWords.{age_first_reads, age_last_reads, block_first_reads, block_last_reads, both_first_reads, both_last_reads, both_reads, compile_age_first_reads, compile_age_last_reads, cut_reads, cut_reads_after, hold_reads, make_reads, make_reads_after, nets_age_reads, nets_block_reads, ones_reads, run_age_first_reads, run_age_last_reads, sim_reads, sim_reads_after, trace_reads, trace_reads_after, widen_reads, widen_reads_after}
 use Rattle.dk_words.proofs.NumberLemmas.{plain-padded, within-padded}
 
 -- ---- the ranges
@@ -118,3 +118,10 @@ module _ (name p o : Text) (z block : ℕ) (low : 2 ≤ block) (high : block ≤
 
   pub compile_block_last : command_of (name ∷ codes "compile" ∷ p ∷ o ∷ codes "--block" ∷ padded_decimal z block ∷ []) ≡ Some (compile p o false 0 (Some block))
   compile_block_last = block_last_reads p o ep eo (padded_decimal z block) (plain z block (omega (arith, high))) name block (block_padded z block low high)
+
+module _ (name p : Text) (ep : is_like_option p ≡ false) where
+  pub nets_age : (z age : ℕ) → age ≤ MAX_AGE → command_of (name ∷ codes "nets" ∷ codes "--age" ∷ padded_decimal z age ∷ p ∷ []) ≡ Some (nets p false age None)
+  nets_age z age low = nets_age_reads p ep (padded_decimal z age) (plain z age (omega arith)) name age (age_padded z age low)
+
+  pub nets_block : (z block : ℕ) → 2 ≤ block → block ≤ MAX_BUFFER_BITS → command_of (name ∷ codes "nets" ∷ codes "--block" ∷ padded_decimal z block ∷ p ∷ []) ≡ Some (nets p false 0 (Some block))
+  nets_block z block low high = nets_block_reads p ep (padded_decimal z block) (plain z block (omega (arith, high))) name block (block_padded z block low high)

@@ -8,11 +8,11 @@ use Rattle.clap.specs.Takes.{walk_passes}
 use Rattle.clap.specs.Walk.{Held, Row, Rule, Text, Walk, after_step, arg_by_index, finished, idle, nothing_held, option, plain_word, rows_after, settled, to_positional, value, walk_from, walked, walked_from, word_met}
 use Rattle.clap.specs.Simple.{Shape}
 use Rattle.dk_words.specs.Words.{is_like_option}
-use Rattle.dk_words.specs.Command.{Command, age_number, block_number, check, check_of_rows, clocks_of, command_of, compile, compile_of_rows, compile_on, cut_of_rows, cut_on, eval, eval_of_rows, explain, explain_of_rows, hold_number, levels_number, made_number, make, make_of_rows, make_on, narrow_of_rows, phases_number, plan, plan_of_rows, plan_on, rewrite, run, run_of_rows, run_on, sim, sim_of_rows, sim_on, trace, trace_of_rows, trace_on, widen_of_rows, widen_on}
+use Rattle.dk_words.specs.Command.{Command, age_number, block_number, check, check_of_rows, clocks_of, command_of, compile, compile_of_rows, compile_on, cut_of_rows, cut_on, eval, eval_of_rows, explain, explain_of_rows, hold_number, levels_number, made_number, make, make_of_rows, make_on, narrow_of_rows, nets, nets_of_rows, nets_on, phases_number, plan, plan_of_rows, plan_on, rewrite, run, run_of_rows, run_on, sim, sim_of_rows, sim_on, trace, trace_of_rows, trace_on, widen_of_rows, widen_on}
 use Rattle.dk_words.specs.declared.command.PowerUp.TheVariants.{Zeros, Ones}
 use Rattle.dk_words.specs.declared.command.Rewriting.TheVariants.{Cut, Narrow, Widen}
 use Rattle.dk_words.proofs.Joined.{both}
-use Rattle.dk_words.specs.Words.{run_command, eval_command, compile_command, sim_command, trace_command, plan_command, check_command, make_command, cut_command, narrow_command, widen_command, explain_command}
+use Rattle.dk_words.specs.Words.{run_command, eval_command, compile_command, sim_command, trace_command, plan_command, check_command, make_command, cut_command, narrow_command, widen_command, explain_command, nets_command}
 use Rattle.dk_words.proofs.TakenLemmas.{in_program}
 
 -- ---- a word that is not like an option
@@ -496,8 +496,81 @@ pub explain_reads_after : (name p : Text) → command_of (name ∷ codes "explai
 unfolding walked walk_passes
 explain_reads_after name p = refl
 
--- ---- `trace`
+-- ---- `nets`
 
+abbrev nets_shape : Shape
+nets_shape = in_program nets_command
+
+module _ (p : Text) (ep : is_like_option p ≡ false) where
+  nets_from : (h : Held) (to : Walk) → pass.step_passes nets_shape 1 h value ≡ true → Goes nets_shape (placed_from nets_shape (standing h 1) (p ∷ [])) [] to → Goes nets_shape (standing h 1) (p ∷ []) to
+  nets_from h to one goes = goes_by_word nets_shape h 1 to p [] ep one goes
+
+  abbrev nets_program : Walk → Walk
+  nets_program w = placed_from nets_shape w (p ∷ [])
+
+  nets_go : Goes nets_shape (walk_from nothing_held) (p ∷ []) (nets_program (walk_from nothing_held))
+  nets_go = nets_from nothing_held _ refl (goes_nowhere nets_shape _)
+
+  pub nets_reads : (name : Text) → command_of (name ∷ codes "nets" ∷ p ∷ []) ≡ Some (nets p false 0 None)
+  unfolding walked walk_passes
+  nets_reads name =
+      named _ _ _ (both _ _ (level nets_shape (p ∷ []) (nets_program (walk_from nothing_held)) nets_go refl) refl)
+      (reads nets_shape (p ∷ []) (nets_program (walk_from nothing_held)) nets_of_rows _ nets_go refl)
+
+  -- `--enable` in front
+  abbrev nets_enabled : Walk
+  nets_enabled = walked_from nets_shape.rules [] None (walk_from nothing_held) enable_word
+
+  nets_enable_go : Goes nets_shape (walk_from nothing_held) (enable_word ∷ p ∷ []) (nets_program nets_enabled)
+  unfolding walked
+  nets_enable_go =
+      goes_by nets_shape (walk_from nothing_held) nets_enabled _ enable_word _ refl refl
+      (nets_from nets_enabled.held (nets_program nets_enabled) refl (goes_nowhere nets_shape (nets_program nets_enabled)))
+
+  pub nets_enable_reads : (name : Text) → command_of (name ∷ codes "nets" ∷ enable_word ∷ p ∷ []) ≡ Some (nets p true 0 None)
+  unfolding walked walk_passes
+  nets_enable_reads name =
+      named _ _ _ (both _ _ (level nets_shape (enable_word ∷ p ∷ []) (nets_program nets_enabled) nets_enable_go refl) refl)
+      (reads nets_shape (enable_word ∷ p ∷ []) (nets_program nets_enabled) nets_of_rows _ nets_enable_go refl)
+
+  module _ (k : Text) (ek : is_like_option k ≡ false) where
+    -- `--age` in front
+    abbrev nets_aged : Walk
+    nets_aged = aged nets_shape (walk_from nothing_held) k
+
+    nets_age_go : Goes nets_shape (walk_from nothing_held) (age_word ∷ k ∷ p ∷ []) (nets_program nets_aged)
+    unfolding walked
+    nets_age_go =
+        goes_by_option nets_shape (codes "age") age_word (walk_from nothing_held) _ k _ refl refl ek
+        (nets_from nets_aged.held (nets_program nets_aged) refl (goes_nowhere nets_shape (nets_program nets_aged)))
+
+    pub nets_age_reads : (name : Text) (age : ℕ) → age_number k ≡ Some age → command_of (name ∷ codes "nets" ∷ age_word ∷ k ∷ p ∷ []) ≡ Some (nets p false age None)
+    unfolding walked walk_passes
+    nets_age_reads name age is =
+        named _ _ _ (both _ _ (level nets_shape (age_word ∷ k ∷ p ∷ []) (nets_program nets_aged) nets_age_go refl) refl)
+        (reads nets_shape (age_word ∷ k ∷ p ∷ []) (nets_program nets_aged) nets_of_rows _ nets_age_go (ap (λ a. nets_on (Some p) false a (Some None)) is))
+
+    -- `--block` in front
+    abbrev nets_blocked : Walk
+    nets_blocked = given_option nets_shape (codes "block") (walk_from nothing_held) k
+
+    nets_block_go : Goes nets_shape (walk_from nothing_held) (codes "--block" ∷ k ∷ p ∷ []) (nets_program nets_blocked)
+    unfolding walked
+    nets_block_go =
+        goes_by_option nets_shape (codes "block") (codes "--block") (walk_from nothing_held) _ k _ refl refl ek
+        (nets_from nets_blocked.held (nets_program nets_blocked) refl (goes_nowhere nets_shape (nets_program nets_blocked)))
+
+    pub nets_block_reads : (name : Text) (block : ℕ) → block_number k ≡ Some block → command_of (name ∷ codes "nets" ∷ codes "--block" ∷ k ∷ p ∷ []) ≡ Some (nets p false 0 (Some block))
+    unfolding walked walk_passes
+    nets_block_reads name block is =
+        named _ _ _ (both _ _ (level nets_shape (codes "--block" ∷ k ∷ p ∷ []) (nets_program nets_blocked) nets_block_go refl) refl)
+        (reads nets_shape (codes "--block" ∷ k ∷ p ∷ []) (nets_program nets_blocked) nets_of_rows _ nets_block_go (ap (λ n. nets_on (Some p) false (Some 0) (option_map (λ x. Some x) n)) is))
+
+pub nets_reads_after : (name p : Text) → command_of (name ∷ codes "nets" ∷ codes "--" ∷ p ∷ []) ≡ Some (nets p false 0 None)
+unfolding walked walk_passes
+nets_reads_after name p = refl
+
+-- ---- `trace`
 abbrev trace_shape : Shape
 trace_shape = in_program trace_command
 

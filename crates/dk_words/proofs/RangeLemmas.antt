@@ -9,7 +9,7 @@ use Rattle.clap.specs.Simple.{subcommand_of}
 use Rattle.clap.specs.Takes.{takes}
 use Rattle.dk_words.specs.Words.{program}
 use Rattle.dk_words.specs.Numbers.{number_of, number_within, within}
-use Rattle.dk_words.specs.Command.{Command, IsInRange, age_number, age_of, block_number, block_of, check_of_rows, check_on, clocks_of, command_asked, command_from, command_of, compile_of_rows, compile_on, cut_of_rows, cut_on, enable_of, eval_of_rows, eval_on, explain_of_rows, explain_on, fill_of, hold_number, hold_of, levels_number, made_number, make_of_rows, make_on, narrow_of_rows, narrow_on, phases_number, plan_of_rows, plan_on, run_of_rows, run_on, sim_of_rows, sim_on, trace_of_rows, trace_on, widen_of_rows, widen_on}
+use Rattle.dk_words.specs.Command.{Command, IsInRange, age_number, age_of, block_number, block_of, check_of_rows, check_on, clocks_of, command_asked, command_from, command_of, compile_of_rows, compile_on, cut_of_rows, cut_on, enable_of, eval_of_rows, eval_on, explain_of_rows, explain_on, fill_of, hold_number, hold_of, levels_number, made_number, make_of_rows, make_on, narrow_of_rows, narrow_on, nets_of_rows, nets_on, phases_number, plan_of_rows, plan_on, run_of_rows, run_on, sim_of_rows, sim_on, trace_of_rows, trace_on, widen_of_rows, widen_on}
 use Rattle.dk_words.specs.declared.NoCommand.{NoCommand}
 use Rattle.dk_words.specs.declared.command.Asked.{Asked}
 use Rattle.dk_words.specs.declared.command.PowerUp.{PowerUp}
@@ -156,6 +156,12 @@ explain_in : (p : Option Text) → IfSome (explain_on p) IsInRange
 explain_in None = tt
 explain_in (Some p) = tt
 
+nets_in : (p : Option Text) (enable : Bool) (a : Option ℕ) (b : Option (Option ℕ)) → IfSome a (λ m. m ≤ MAX_AGE) → IfSome b (λ h. IfSome h (λ n. (2 ≤ n) × (n ≤ MAX_BUFFER_BITS))) → IfSome (nets_on p enable a b) IsInRange
+nets_in None enable a b low within = tt
+nets_in (Some p) enable None b low within = tt
+nets_in (Some p) enable (Some a) None low within = tt
+nets_in (Some p) enable (Some a) (Some b) low within = (low, within)
+
 -- one of two commands
 one_in : (b : Bool) (x y : Option Command) → IfSome x IsInRange → IfSome y IsInRange → IfSome (cond b x y) IsInRange
 one_in true x y first second = first
@@ -183,7 +189,9 @@ from_in (Some p) =
     (one_in (bytes_eq p.0 (codes "narrow")) (narrow_of_rows p.1) _ (narrow_in (first_of (codes "PROG") p.1) (first_of (codes "OUT") p.1))
     (one_in (bytes_eq p.0 (codes "widen")) (widen_of_rows p.1) _
     (widen_in (option_and_then phases_number (first_of (codes "P") p.1)) (first_of (codes "PROG") p.1) (first_of (codes "OUT") p.1) (phases_in (first_of (codes "P") p.1)))
-    (one_in (bytes_eq p.0 (codes "explain")) (explain_of_rows p.1) None (explain_in (first_of (codes "PROG") p.1)) tt)))))))))))
+    (one_in (bytes_eq p.0 (codes "explain")) (explain_of_rows p.1) _ (explain_in (first_of (codes "PROG") p.1))
+    (one_in (bytes_eq p.0 (codes "nets")) (nets_of_rows p.1) None
+    (nets_in (first_of (codes "PROG") p.1) (enable_of (first_of (codes "enable") p.1)) (age_of (first_of (codes "age") p.1)) (block_of (first_of (codes "block") p.1)) (age_in (first_of (codes "age") p.1)) (block_in (first_of (codes "block") p.1))) tt))))))))))))
 
 -- the command that words name
 pub named_in : (ws : List Text) (command : Command) → command_of ws ≡ Some command → IsInRange command

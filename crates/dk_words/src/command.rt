@@ -117,6 +117,18 @@ pub struct ExplainWords<'a> {
     pub program: &'a str,
 }
 
+/// The words of `nets`.
+#[derive(Clone, Copy, Debug, PartialEq, Eq)]
+pub struct NetsWords<'a> {
+    pub program: &'a str,
+    /// Whether the module has a clock enable.
+    pub enable: bool,
+    /// The least age of each live read, 0 to `MAX_AGE`.
+    pub age: u8,
+    /// The fewest words of an array that is read one clock ahead, 2 to `MAX_BUFFER_BITS`; None where no array is.
+    pub block: Option<u32>,
+}
+
 /// A command, with its words.
 #[derive(Clone, Copy, Debug, PartialEq, Eq)]
 pub enum Asked<'a> {
@@ -130,6 +142,7 @@ pub enum Asked<'a> {
     Make(MakeWords),
     Rewrite(RewriteWords<'a>),
     Explain(ExplainWords<'a>),
+    Nets(NetsWords<'a>),
 }
 
 // The value of this word.
@@ -375,6 +388,23 @@ fn read_explain<'a>(matches: &ArgMatches<'a>) -> Option<ExplainWords<'a>>
     Some(ExplainWords { program })
 }
 
+// The words of `nets`, where each has a value.
+fn read_nets<'a>(matches: &ArgMatches<'a>) -> Option<NetsWords<'a>>
+    ensures { option_map (λ k. command.nets k.program.now k.enable k.age k.block) result
+        ≡ command.nets_of_rows (rows_of (found_of matches.now)) }
+{
+    let program = given(matches, "PROG")?;
+    let enable = read_enable(matches);
+    let age = read_age(matches)?;
+    let block = read_block(matches)?;
+    Some(NetsWords {
+        program,
+        enable,
+        age,
+        block,
+    })
+}
+
 // The command of the matches.
 pub fn read_matches<'a>(matches: &ArgMatches<'a>) -> Option<Asked<'a>>
     ensures { option_map command.command_asked result
@@ -394,6 +424,7 @@ pub fn read_matches<'a>(matches: &ArgMatches<'a>) -> Option<Asked<'a>>
         "narrow" => Some(Asked::Rewrite(read_narrow(inner)?)),
         "widen" => Some(Asked::Rewrite(read_widen(inner)?)),
         "explain" => Some(Asked::Explain(read_explain(inner)?)),
+        "nets" => Some(Asked::Nets(read_nets(inner)?)),
         _ => None,
     }
 }

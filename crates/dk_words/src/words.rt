@@ -219,6 +219,19 @@ fn explain_command<'a>(alloc: Global) -> Result<Command<'a>, AllocError>
     Ok(command)
 }
 
+// `nets [--enable] [--age K] [--block N] PROG`.
+fn nets_command<'a>(alloc: Global) -> Result<Command<'a>, AllocError>
+    ensures shape { IfOk result (λ c. shape_of c ≡ words.nets_command) }
+    ensures local { IfOk result (λ c. (fields_of c).has_globals ≡ false) }
+{
+    let command = Command::new(alloc, "nets");
+    let command = command.arg(word(alloc, "PROG"))?;
+    let command = command.arg(option(alloc, "age"))?;
+    let command = command.arg(option(alloc, "block"))?;
+    let command = command.arg(flag(alloc, "enable"))?;
+    Ok(command)
+}
+
 // The program, with `plan`, `check` and `make` too.
 fn first_commands<'a>(alloc: Global) -> Result<Command<'a>, AllocError>
     ensures { IfOk result (λ c. app_of c ≡ words.program_with words.first_commands) }
@@ -239,6 +252,7 @@ fn program_command<'a>(alloc: Global) -> Result<Command<'a>, AllocError>
     let command = command.subcommand(narrow_command(alloc)?)?;
     let command = command.subcommand(widen_command(alloc)?)?;
     let command = command.subcommand(explain_command(alloc)?)?;
+    let command = command.subcommand(nets_command(alloc)?)?;
     Ok(command)
 }
 

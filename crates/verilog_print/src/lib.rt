@@ -7,4 +7,5 @@ mod number;
 mod right;
 mod text;
 
+pub use name::push_net;
 pub use text::print;

@@ -21,7 +21,8 @@ pub(crate) fn push_name(out: &mut Vec<u8>, names: &[Name], place: usize) -> Resu
     }
 }
 
-pub(crate) fn push_net(out: &mut Vec<u8>, module: &Module, net: Net) -> Result<(), AllocError>
+/// Adds the name of a net in a module's text.
+pub fn push_net(out: &mut Vec<u8>, module: &Module, net: Net) -> Result<(), AllocError>
     ensures { OnOk result (out.new.items ≡ out.old.items ++ name_of_net «module».now net) }
 {
     match net {

@@ -1,5 +1,5 @@
-use Rattle.dk_words.proofs.FileWords.{compile_reads, compile_reads_after, enable_first_reads, enable_last_reads, run_reads, run_reads_after, eval_reads, eval_reads_after, explain_reads, explain_reads_after, narrow_reads, narrow_reads_after, check_reads, check_reads_after, plan_reads, plan_reads_after}
-use Rattle.dk_words.proofs.DecimalWords.{compile_age_first, compile_age_last, compile_block_first, compile_block_last, compile_both_first, compile_both_last, cut_after, cut_alone, make_after, make_alone, plan_age_first, plan_age_last, run_age_first, run_age_last, sim_after, sim_alone, sim_hold, sim_ones, sim_ones_hold, trace_after, trace_alone, widen_after, widen_alone}
+use Rattle.dk_words.proofs.FileWords.{compile_reads, compile_reads_after, enable_first_reads, enable_last_reads, run_reads, run_reads_after, eval_reads, eval_reads_after, explain_reads, explain_reads_after, nets_reads, nets_reads_after, nets_enable_reads, narrow_reads, narrow_reads_after, check_reads, check_reads_after, plan_reads, plan_reads_after}
+use Rattle.dk_words.proofs.DecimalWords.{compile_age_first, compile_age_last, compile_block_first, compile_block_last, compile_both_first, compile_both_last, cut_after, cut_alone, make_after, make_alone, nets_age, nets_block, plan_age_first, plan_age_last, run_age_first, run_age_last, sim_after, sim_alone, sim_hold, sim_ones, sim_ones_hold, trace_after, trace_alone, widen_after, widen_alone}
 use Rattle.dk_words.proofs.commands_read_their_words_law.Goals as goal
 
 pub returns-clause-run : goal.returns-clause-run
@@ -106,6 +106,21 @@ returns-clause-explain c = explain_reads
 
 pub returns-clause-explain_after_dashes : goal.returns-clause-explain_after_dashes
 returns-clause-explain_after_dashes c = explain_reads_after
+
+pub returns-clause-nets : goal.returns-clause-nets
+returns-clause-nets c = λ name p ep. nets_reads p ep name
+
+pub returns-clause-nets_after_dashes : goal.returns-clause-nets_after_dashes
+returns-clause-nets_after_dashes c = nets_reads_after
+
+pub returns-clause-nets_enable_first : goal.returns-clause-nets_enable_first
+returns-clause-nets_enable_first c = λ name p ep. nets_enable_reads p ep name
+
+pub returns-clause-nets_age_first : goal.returns-clause-nets_age_first
+returns-clause-nets_age_first c = λ name p z age low ep. nets_age name p ep z age low
+
+pub returns-clause-nets_block_first : goal.returns-clause-nets_block_first
+returns-clause-nets_block_first c = λ name p z block low high ep. nets_block name p ep z block low high
 
 pub returns-clause-widen : goal.returns-clause-widen
 returns-clause-widen c = λ name p o z n low high ep eo. widen_alone name p o z n low high ep eo

@@ -1,14 +1,14 @@
-use Rattle.std.proofs.Common.{List, subst, sym}
+use Rattle.std.proofs.Common.{List, length, subst, sym}
 use Rattle.wiring.specs.declared.netlist.Net.{Net}
 use Rattle.circuit.specs.Ends.{CanEnd, IsClosed}
-use Rattle.circuit.specs.Taps.{size_in}
+use Rattle.circuit.specs.Taps.{size_in, HaveTaps, AreTapsOf}
 use Rattle.circuit.proofs.Placing.{own_tests}
-use Rattle.circuit.proofs.Behaving.{can_end, module_is, whole, arrays, properties, apart}
+use Rattle.circuit.proofs.Behaving.{can_end, have_taps, module_is, whole, arrays, properties, read_nets, apart}
 use Rattle.circuit.proofs.finishing.finished.Goals as goal
 
 pub closed-requires : goal.closed-requires
 closed-requires g c = record {
-  ends = subst (CanEnd c.args.b c.args.plan.now) (sym c.deref.ensures.value)
+  ends = subst (CanEnd c.args.b c.args.plan.now) (sym c.deref-2.ensures.value)
       (can_end c.args.b c.args.ir.now c.args.plan.now (g.F.BufferForm.form c.args.form.now) c.args.images.nets.items c.args.images.taps.items c.law.ensures c.requires.stencils c.requires.built.built);
   tests = own_tests c.args.b (size_in c.args.plan.now) c.args.images.tests c.requires.built.tests_are;
 }
@@ -16,24 +16,38 @@ closed-requires g c = record {
 pub returns-clause-whole : goal.returns-clause-whole
 returns-clause-whole g c =
     whole c.in_ok-module.module.netlist c.args.b c.args.ir.now c.args.plan.now (g.F.BufferForm.form c.args.form.now) c.args.images.nets.items c.args.images.taps.items c.args.images.tests c.law.ensures c.requires.stencils c.requires.built
-    (subst (λ (ns : List Net). IsClosed c.in_ok-module.module.netlist c.args.b c.args.plan.now ns c.args.images.tests) c.deref.ensures.value c.in_ok-module.ensures.closed)
+    (subst (λ (ns : List Net). IsClosed c.in_ok-module.module.netlist c.args.b c.args.plan.now ns c.args.images.tests) c.deref-2.ensures.value c.in_ok-module.ensures.closed)
 
 pub returns-clause-circuit : goal.returns-clause-circuit
 returns-clause-circuit g c =
     module_is c.in_ok-module.module.netlist c.args.b c.args.ir.now c.args.plan.now (g.F.BufferForm.form c.args.form.now) c.args.images.nets.items c.args.images.taps.items c.args.images.tests c.law.ensures c.requires.stencils c.requires.built
-    (subst (λ (ns : List Net). IsClosed c.in_ok-module.module.netlist c.args.b c.args.plan.now ns c.args.images.tests) c.deref.ensures.value c.in_ok-module.ensures.closed)
+    (subst (λ (ns : List Net). IsClosed c.in_ok-module.module.netlist c.args.b c.args.plan.now ns c.args.images.tests) c.deref-2.ensures.value c.in_ok-module.ensures.closed)
 
 pub returns-clause-arrays : goal.returns-clause-arrays
 returns-clause-arrays g c =
     arrays c.in_ok-module.module.netlist c.args.b c.args.ir.now c.args.plan.now (g.F.BufferForm.form c.args.form.now) c.args.images.nets.items c.args.images.taps.items c.args.images.tests c.law.ensures c.requires.stencils c.requires.built
-    (subst (λ (ns : List Net). IsClosed c.in_ok-module.module.netlist c.args.b c.args.plan.now ns c.args.images.tests) c.deref.ensures.value c.in_ok-module.ensures.closed)
+    (subst (λ (ns : List Net). IsClosed c.in_ok-module.module.netlist c.args.b c.args.plan.now ns c.args.images.tests) c.deref-2.ensures.value c.in_ok-module.ensures.closed)
 
 pub returns-clause-property : goal.returns-clause-property
 returns-clause-property g c =
     properties c.in_ok-module.module.netlist c.args.b c.args.ir.now c.args.plan.now (g.F.BufferForm.form c.args.form.now) c.args.images.nets.items c.args.images.taps.items c.args.images.tests c.law.ensures c.requires.stencils c.requires.built
-    (subst (λ (ns : List Net). IsClosed c.in_ok-module.module.netlist c.args.b c.args.plan.now ns c.args.images.tests) c.deref.ensures.value c.in_ok-module.ensures.closed)
+    (subst (λ (ns : List Net). IsClosed c.in_ok-module.module.netlist c.args.b c.args.plan.now ns c.args.images.tests) c.deref-2.ensures.value c.in_ok-module.ensures.closed)
 
 pub returns-clause-apart : goal.returns-clause-apart
 returns-clause-apart g c =
     apart c.in_ok-module.module.netlist c.args.b c.args.ir.now c.args.plan.now (g.F.BufferForm.form c.args.form.now) c.args.images.nets.items c.args.images.taps.items c.args.images.tests c.law.ensures c.requires.stencils c.requires.built
-    (subst (λ (ns : List Net). IsClosed c.in_ok-module.module.netlist c.args.b c.args.plan.now ns c.args.images.tests) c.deref.ensures.value c.in_ok-module.ensures.closed)
+    (subst (λ (ns : List Net). IsClosed c.in_ok-module.module.netlist c.args.b c.args.plan.now ns c.args.images.tests) c.deref-2.ensures.value c.in_ok-module.ensures.closed)
+
+pub read_nets-requires : goal.read_nets-requires
+read_nets-requires g c =
+    record {
+      taps = subst (HaveTaps c.args.plan.now) (sym c.deref.ensures.value)
+          (have_taps c.args.b c.args.ir.now c.args.plan.now (g.F.BufferForm.form c.args.form.now) c.args.images.nets.items c.args.images.taps.items c.requires.built.built);
+    }
+
+pub returns-clause-reads : goal.returns-clause-reads
+returns-clause-reads g c =
+    read_nets c.in_ok-module.module.netlist c.args.b c.args.ir.now c.args.plan.now (g.F.BufferForm.form c.args.form.now) c.args.images.nets.items c.args.images.taps.items c.args.images.tests c.law.ensures c.requires.stencils c.requires.built
+    (subst (λ (ns : List Net). IsClosed c.in_ok-module.module.netlist c.args.b c.args.plan.now ns c.args.images.tests) c.deref-2.ensures.value c.in_ok-module.ensures.closed)
+    c.in_ok-reads.reads.items
+    (subst (λ (ts : List (List Net)). AreTapsOf c.args.plan.now ts (length c.args.plan.now.system.stencils.reads) c.in_ok-reads.reads.items) c.deref.ensures.value c.in_ok-reads.ensures)

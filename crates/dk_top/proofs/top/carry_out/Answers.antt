@@ -36,3 +36,6 @@ returns-in-Ok-Rewrite-clause-performs g c = as_named _ _ _ _ _ (c.in-Ok-Rewrite.
 
 pub returns-in-Ok-Explain-clause-performs : goal.returns-in-Ok-Explain-clause-performs
 returns-in-Ok-Explain-clause-performs g c = as_named _ _ _ _ _ (c.in-Ok-Explain.ensures.ok ∙ ap (λ (a : Asked). Some (command_asked a)) c.in-Ok-Explain.field-0-is) c.performed-in-Ok-Explain.ensures.performs
+
+pub returns-in-Ok-Nets-clause-performs : goal.returns-in-Ok-Nets-clause-performs
+returns-in-Ok-Nets-clause-performs g c = as_named _ _ _ _ _ (c.in-Ok-Nets.ensures.ok ∙ ap (λ (a : Asked). Some (command_asked a)) c.in-Ok-Nets.field-0-is) c.performed-in-Ok-Nets.ensures.performs
