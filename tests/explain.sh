@@ -220,7 +220,7 @@ usage_fault <<'end'
 The command is missing. `./dk --help` shows the commands and options.
 end
 usage_fault ru p.dk i.pgm o.pgm <<'end'
-There is no command `ru`. The commands are: run compile plan sim eval make check trace cut narrow widen explain. `./dk --help` shows the commands and options.
+There is no command `ru`. The commands are: run compile nets plan sim eval make check trace cut narrow widen explain. `./dk --help` shows the commands and options.
 end
 usage_fault -- run p.dk i.pgm o.pgm <<'end'
 The command comes first, but `--` begins with a hyphen. `./dk --help` shows the commands and options.
@@ -306,6 +306,7 @@ taken cut 064 p.dk o.dk
 taken narrow p.dk o.dk
 taken widen 8 p.dk o.dk
 taken explain p.dk
+taken nets --age=1 p.dk --block 2 --enable
 
 # The help page has a line for each command and option, of 80 columns at most.
 help_page >page

@@ -35,7 +35,7 @@ class Chapter(NamedTuple):
 CHAPTERS = [
     Chapter("run-and-compile", "What `run` and `compile` promise",
             "Which program and image file fit together, which pictures the program means, which module it is compiled to, and which pixels that module shows at which clock.",
-            ["IsGoodPair", "IsStoredRun", "NotedRun", "IsCompiledText"]),
+            ["IsCorrect", "IsGoodPair", "IsStoredRun", "NotedRun", "IsCompiledText"]),
     Chapter("run-faults", "When `run` ends otherwise, and what it leaves",
             "Which fault ends `run`, and which lines of the picture the output file then holds.",
             ["IsRunAnswer", "CreatesRun", "HoldsAtWrite", "LeavesAtFault", "LeavesAtRead", "IsFaultAt", "IsImageFault"]),
@@ -57,9 +57,9 @@ CHAPTERS = [
     Chapter("files", "The frame of the outside",
             "Which files a command asks for, creates and leaves unchanged, and what it writes to standard error.",
             ["Performs", "OnCommand", "OnFiles", "UnlessFailed", "HasCauseIn", "Rose", "IsFresh", "AsksOnly", "AsksWhere", "CreatesNothing", "CreatesOut", "FilesStay", "GainsLine", "WritesNothing", "IsOrMemory"]),
-    Chapter("eval-compile-make", "`eval`, `compile` and `make`",
-            "How these three commands end, and what they write.",
-            ["IsAnswer", "IsStoredOf", "IsProgramAnswer", "HoldsText", "IsMadeLine", "NotesMade"]),
+    Chapter("eval-compile-make", "`eval`, `compile`, `nets` and `make`",
+            "How these four commands end, and what they write.",
+            ["IsAnswer", "IsStoredOf", "IsProgramAnswer", "HoldsText", "AreNetLines", "IsMadeLine", "NotesMade"]),
     Chapter("rewriting", "`cut`, `narrow` and `widen`",
             "How the commands end that write another program, and what that program shows.",
             ["IsRewriteAnswer", "CanBeRewritten", "IsRewriteOf", "ReportsRewrite", "AreRewriteLines", "EndsWell"]),
@@ -156,15 +156,16 @@ def read_types(crate, folder):
     return found
 
 
-def clauses(path):
+def clauses(path, name):
+    """The clauses of a function of dk_top."""
     text = open(path, encoding="utf-8").read()
-    start = text.index("pub fn dk_main")
+    start = text.index(f"pub fn {name}")
     head = text[start:text.index("\n{\n", start)]
     module = Module("top", os.path.relpath(path, TOP))
     for line in re.findall(r"^ghost use ([^;]+);", text, re.M):
         for _, name, source, old in imports("use " + line):
             module.uses[name] = (source, old)
-    return module, Definition(module, "dk_main", head, "")
+    return module, Definition(module, name, head, "")
 
 
 def load():
@@ -261,7 +262,7 @@ def root(modules, types, top, name):
 def ladder():
     """The clauses, and each chapter with its definitions."""
     modules, types = load()
-    top, main = clauses(f"{TOP}/crates/dk_top/src/top.rt")
+    top, main = clauses(f"{TOP}/crates/dk_top/src/top.rt", "dk_main")
     all_roots = [[root(modules, types, top, name) for name in each.roots] for each in CHAPTERS]
     shown = {id(it) for roots in all_roots for it in roots}
     chapters = []
@@ -321,7 +322,7 @@ HEAD = """# The ladder
 
 These pages show what a reader of the proof has to believe: the clauses of the program's one call, and each definition that they name, from the top down, each once. `python3 tools/ladder.py` makes them from the sources, and `./check` compares them with the sources. Names of the toolchain's library (lists, options, numbers) are not shown. Structs and enums are those of the code.
 
-Read the first chapter first; it takes about an hour. It also states what the line buffers hold and why their bits are minimal. The later chapters have the rest: texts and tokens, the rules of a well formed module, the form of a program, and the other commands.
+The theorem of the compiler comes first, on this page. Then read the first chapter; it takes about an hour. It also states what the line buffers hold and why their bits are minimal. The later chapters have the rest: texts and tokens, the rules of a well formed module, the form of a program, and the other commands.
 
 How to read a definition:
 
@@ -333,8 +334,21 @@ How to read a definition:
 """
 
 
+def headline(modules, types, places):
+    """The theorem of the compiler with its own definitions, those of their file."""
+    _, law = clauses(f"{TOP}/crates/dk_top/src/laws.rt", "correct_law")
+    own = modules["Rattle.dk_compile.specs.Correct"].order
+    out = ["## The theorem", "", "Whatever text `compile` leaves in OUT, it denotes one module. From any contents this module shows the program's pictures. Its arrays have the fewest bits of all causal schedules.",
+           "", f"`correct_law`, [{law.module.path}](../{law.module.path}):", "", "```", law.text, "```", "",
+           f"`IsCompiledText` is what the clauses of `dk_main` state of OUT after Done of `compile`. The definitions of the theorem, [{own[0].module.path}](../{own[0].module.path}):"]
+    for item in reversed(own):
+        out += ["", *([item.sentence, ""] if item.sentence else []), "```", item.text, "```"]
+    beyond = [other for item in reversed(own) for other in named(modules, types, item) if other not in own]
+    return [*out, "", f"Below these are the field's own notions: {links(list(dict.fromkeys(beyond)), places, None)}.", ""]
+
+
 def index(modules, types, main, chapters, places):
-    out = [HEAD, *counts(chapters, lambda number, each: f"[{number}. {each.title}](ladder/{file_of(number, each)})"), "", "What each chapter answers, and the definitions that it begins with:", ""]
+    out = [HEAD, *headline(modules, types, places), "## The chapters", "", *counts(chapters, lambda number, each: f"[{number}. {each.title}](ladder/{file_of(number, each)})"), "", "What each chapter answers, and the definitions that it begins with:", ""]
     for number, (each, items) in enumerate(chapters, 1):
         roots = items[: len(each.roots)] if each.roots else items
         out.append(f"{number}. {each.sentence} It begins with {links(roots, places, None)}.")

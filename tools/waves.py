@@ -117,4 +117,5 @@ def main(words):
             print(time, *sorted(f"{name}={row[name]}" for name in dump.names))
 
 
-main(sys.argv[1:])
+if __name__ == "__main__":
+    main(sys.argv[1:])

@@ -1,7 +1,7 @@
 # The words of a call of dk, for tools/explain.sh: what each is, and which is wrong; and the help page.
 # `called` is the script's name for its caller, and `docs` is the folder of the pages, as both are shown.
 
-commands='run compile plan sim eval make check trace cut narrow widen explain'
+commands='run compile nets plan sim eval make check trace cut narrow widen explain'
 see_help="\`${called:?} --help\` shows the commands and options."
 case ${docs:?} in
 */..*) docs=$(CDPATH='' cd -- "$docs" 2>/dev/null && pwd) || docs=docs ;;
@@ -43,6 +43,7 @@ find_command() {
     case $command in
     run) names='PROG IN OUT' options='--age' ;;
     compile) names='PROG OUT' options='--enable --age --block' ;;
+    nets) names='PROG' options='--enable --age --block' ;;
     plan) names='PROG' options='--age' ;;
     sim) names='VERILOG CLOCKS IN OUT' options='--fill --hold' ;;
     eval) names='PROG IN OUT' ;;
@@ -162,6 +163,7 @@ usage: $called COMMAND [OPTION..] WORD..
   run PROG IN OUT              clock that circuit over images
   eval PROG IN OUT             compute the same pictures without a circuit
   plan PROG                    print delays and buffer bits, proved minimal
+  nets PROG                    print which net of the Verilog is which image
   check PROG REPORT            check what plan printed
   sim VERILOG CLOCKS IN OUT    clock a Verilog text over images
   trace VERILOG CLOCKS IN VCD  clock a Verilog text, write a value change dump
@@ -173,9 +175,10 @@ usage: $called COMMAND [OPTION..] WORD..
   help [COMMAND]               print this page, or the help of a command
   --version                    print the version, the kit and the sources
 
-  --age K      compile, run, plan: reads are at least K clocks old, 0 to 64
-  --enable     compile: the module has a clock enable, the port en
-  --block N    compile: arrays of N words or more fit block RAM, 2 to 67,108,864
+  --age K      compile, nets, run, plan: reads at least K clocks old, 0 to 64
+  --enable     compile, nets: the module has a clock enable, the port en
+  --block N    compile, nets: arrays of N or more words fit block RAM,
+               2 to 67,108,864
   --fill FILL  sim: registers and memories start as zeros (default) or ones
   --hold K     sim: a held clock after every K clocks, 1 to 1,000,000
   --help, -h   print the help of the command before it, or this page

@@ -13,7 +13,7 @@ _dk_files() {
 
 _dk() {
     local current=${COMP_WORDS[COMP_CWORD]} command=${COMP_WORDS[1]} options words given='' at=0 k option value
-    local commands='run compile plan sim eval make check trace cut narrow widen explain'
+    local commands='run compile nets plan sim eval make check trace cut narrow widen explain'
     COMPREPLY=()
     if [ "$COMP_CWORD" = 1 ]; then
         mapfile -t COMPREPLY < <(compgen -W "$commands help --help --version" -- "$current")
@@ -26,6 +26,7 @@ _dk() {
         ;;
     run) words=(.dk .pgm any) options='--age' ;;
     compile) words=(.dk any) options='--enable --age --block' ;;
+    nets) words=(.dk) options='--enable --age --block' ;;
     plan) words=(.dk) options='--age' ;;
     explain) words=(.dk) ;;
     sim) words=(.v number .pgm any) options='--fill --hold' ;;

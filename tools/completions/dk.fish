@@ -19,7 +19,7 @@ function __dk_words
             set kinds .dk .pgm any
         case compile check narrow
             set kinds .dk any
-        case plan explain
+        case plan nets explain
             set kinds .dk
         case sim trace
             set kinds .v number .pgm any
@@ -59,6 +59,7 @@ end
 complete -c dk -f
 complete -c dk -n __dk_command -a run -d 'compile, clock the circuit on images and write the pictures'
 complete -c dk -n __dk_command -a compile -d 'write the Verilog text'
+complete -c dk -n __dk_command -a nets -d 'print which net of the Verilog text is which image'
 complete -c dk -n __dk_command -a plan -d 'write the report of delays and line buffers'
 complete -c dk -n __dk_command -a sim -d 'drive a Verilog text with images'
 complete -c dk -n __dk_command -a eval -d 'write the pictures by the meaning of the program'
@@ -72,10 +73,10 @@ complete -c dk -n __dk_command -a explain -d 'print the faults of a program, wit
 complete -c dk -n __dk_command -a help -d 'print the commands and options, or the help of a command'
 complete -c dk -n __dk_command -l version -d 'print the version, the kit and the sources'
 complete -c dk -n 'not contains -- -- (commandline -opc)' -s h -l help -d 'print help'
-complete -c dk -n '__dk_command help' -a 'run compile plan sim eval make check trace cut narrow widen explain'
-complete -c dk -n '__dk_command run compile plan' -x -l age -d 'least age of a live read, 0 to 64'
-complete -c dk -n '__dk_command compile' -l enable -d 'add a clock enable'
-complete -c dk -n '__dk_command compile' -x -l block -d 'fewest words of a block memory, 2 to 67108864'
+complete -c dk -n '__dk_command help' -a 'run compile nets plan sim eval make check trace cut narrow widen explain'
+complete -c dk -n '__dk_command run compile nets plan' -x -l age -d 'least age of a live read, 0 to 64'
+complete -c dk -n '__dk_command compile nets' -l enable -d 'add a clock enable'
+complete -c dk -n '__dk_command compile nets' -x -l block -d 'fewest words of a block memory, 2 to 67108864'
 complete -c dk -n '__dk_command sim' -x -l fill -a 'zeros ones' -d 'contents before the first clock'
 complete -c dk -n '__dk_command sim' -x -l hold -d 'a held clock after every K, 1 to 1000000'
 complete -c dk -n 'not __dk_command' -k -a '(__dk_words)'

@@ -23,3 +23,4 @@ pub mod Same
 pub mod Packing
 pub mod Widened
 pub mod Narrowed
+pub mod Correct

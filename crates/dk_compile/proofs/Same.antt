@@ -24,11 +24,11 @@ use Rattle.body_levels.specs.Deep.{IsShallower}
 use Rattle.dk_compile.specs.Cuts.{IsRound, output_picture, ShowSamePictures, KeepsPictures, IsInlinedText, IsCutOf}
 use Rattle.dk_compile.specs.Judged.{HasForm, ShowsFormOf}
 
-long_inputs : (p : Typing) (ir : Program) → IsForm p ir → length ir.inputs ≡ length p.inputs
+pub long_inputs : (p : Typing) (ir : Program) → IsForm p ir → length ir.inputs ≡ length p.inputs
 long_inputs p ir form = sym (length-map ir.inputs (λ i. i.ty)) ∙ ap length form.inputs ∙ length-map p.inputs (λ i. i.ty)
 
 -- a round of the program is one of its form
-round_of_form : (p : Typing) (ir : Program) → IsForm p ir → (round : List Picture) → IsRound p round → R.IsRound ir round
+pub round_of_form : (p : Typing) (ir : Program) → IsForm p ir → (round : List Picture) → IsRound p round → R.IsRound ir round
 round_of_form p ir form round is = record {
   one_each = is.one_each ∙ sym (long_inputs p ir form);
   pictures = λ k input there.
@@ -63,7 +63,7 @@ stays_output : (p : Typing) (ir : Program) → IsForm p ir → (k : ℕ) → k <
 stays_output p ir form k lt = form.stay (slice_index p.outputs k) (output (Contains-get_or p.outputs k 0 lt))
 
 -- the pictures of an output, by the form
-by_form : (p : Typing) (ir : Program) → IsForm p ir → (round : List Picture) → R.IsRound ir round → (k : ℕ) → k < length p.outputs → (x y : ℤ) →
+pub by_form : (p : Typing) (ir : Program) → IsForm p ir → (round : List Picture) → R.IsRound ir round → (k : ℕ) → k < length p.outputs → (x y : ℤ) →
     picture_at (pictures ir round) (slice_index ir.outputs k) x y ≡ output_picture p round k x y
 by_form p ir form round is k lt x y =
     ap (λ (os : List ℕ). picture_at (pictures ir round) (slice_index os k) x y) form.outputs

@@ -9,3 +9,4 @@ pub mod Cuts
 pub mod Judged
 pub mod Widened
 pub mod Narrowed
+pub mod Correct

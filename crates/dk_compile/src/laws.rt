@@ -1,6 +1,6 @@
 // Laws of the definitions.
 
-ghost use Rattle.std.specs.Prelude.{◌≡◌, ◌⊎◌, ℕ, ◌+◌, ◌-◌, ◌*◌, ◌<◌, ◌≤◌, min, List, length, map, take, All, unsigned_abs};
+ghost use Rattle.std.specs.Prelude.{◌≡◌, ◌⊎◌, Bool, Option, ℕ, ◌+◌, ◌-◌, ◌*◌, ◌<◌, ◌≤◌, min, List, length, map, take, All, unsigned_abs};
 ghost use Rattle.std.specs.List.{flat_map, range_with_len};
 ghost use Rattle.dk_base.specs.Frames.{Size, Picture, area, pixel_of, raster, picture_at};
 ghost use Rattle.dk_base.specs.Stencils.{Stencils};
@@ -11,7 +11,10 @@ ghost use Rattle.pointwise_ir.specs.Stencils.{AreStencilsOf};
 ghost use Rattle.dk_compile.specs.Sources.{IsText, IsAccepted, IsSourceFault};
 ghost use Rattle.dk_compile.specs.Fronts.{IsForm, IsFront};
 ghost use Rattle.dk_compile.specs.Limits.{HasSystem, IsAcceptedAt, IsFaultAt};
-ghost use Rattle.dk_compile.specs.Compiled.{IsPlanned};
+ghost use Rattle.dk_compile.specs.Compiled.{IsPlanned, IsCompiled};
+ghost use Rattle.dk_compile.specs.Correct.{IsCorrect};
+ghost use Rattle.netlist.specs.Names.{NamedNetlist};
+ghost use Rattle.wiring.specs.declared.netlist.Net.{Net};
 ghost use Rattle.wiring.specs.Netlist.{Netlist};
 ghost use Rattle.wiring.specs.Snapshot.{Contents, Snapshot, Fit, FitsContents};
 ghost use Rattle.wiring.specs.Runs.{Runs, picture};
@@ -48,6 +51,15 @@ pub fn one_at_age_law()
     one_source_law();
     stencil_sets::one_answer_law();
     buffer_plan::one_limit_law();
+}
+
+/// The theorem of the compiler: a text that is compiled from a program denotes one module. From any contents this module shows the program's pictures, and its arrays have the fewest bits of all causal schedules of the program's images.
+pub fn correct_law()
+    ensures { (source : List ℕ) (age : ℕ) (enable : Bool) (block : Option ℕ) (p : Typing) (ir : Program) (system : System) (solution : Solution) (plan : Plan)
+        (m : NamedNetlist) (nets reads : List Net) (verilog : List ℕ) → IsCompiled source age enable block p ir system solution plan m nets reads verilog
+        → IsCorrect source age verilog }
+{
+    one_at_age_law();
 }
 
 /// A law: an output's picture of a drive is its pixels in raster order, counted on through the rounds, as many as there are clocks after its latency; and pixels that are counted on through pictures are these pictures' rasters, one after another.

@@ -17,7 +17,7 @@ pub use body_cuts::Reason;
 pub use compiling::{Compiled, PlannedProgram, compile, compile_with, planned};
 pub use cutting::{CutText, cut};
 pub use fault::SourceError;
-pub use laws::{drive_shows_law, one_at_age_law, one_source_law};
+pub use laws::{correct_law, drive_shows_law, one_at_age_law, one_source_law};
 pub use measures::{DeepBody, Measures};
 pub use narrowing::{NarrowText, narrow};
 pub use options::Options;

@@ -1,10 +1,12 @@
 //! Laws of the definitions.
 
-ghost use Rattle.std.specs.Prelude.{◌≡◌, ℕ, ◌<◌, ◌≤◌, List, length, Option, Some};
+ghost use Rattle.std.specs.Prelude.{◌≡◌, ℕ, ◌<◌, ◌≤◌, Bool, List, length, Option, Some};
 ghost use Rattle.dk_base.specs.Stencils.{Stencils};
 ghost use Rattle.source_fault.specs.declared.fault.SourceFault.{SourceFault};
 ghost use Rattle.dk_plan.specs.declared.judging.Claim.{Claim as TheClaim};
 ghost use Rattle.dk_compile.specs.Limits.{IsFaultAt};
+ghost use Rattle.dk_compile.specs.Correct.{IsCorrect};
+ghost use Rattle.dk_top.specs.Compiling.{IsCompiledText};
 ghost use Rattle.dk_top.specs.Program.{CanBeCompiled};
 ghost use Rattle.dk_top.specs.Plans.{HasStencils, IsConfirmed, IsWrongLine};
 ghost use Rattle.dk_top.specs.Streaming.{ReadsToFault, ReadsToFailure};
@@ -13,6 +15,15 @@ ghost use Rattle.dk_words.specs.declared.command.PowerUp.{PowerUp as OnePower};
 ghost use Rattle.dk_top.specs.Agreement.{CompiledInput, whole_drive};
 ghost use Rattle.dk_top.specs.Output.{output_file};
 ghost use Rattle.dk_top.specs.Simulation.{IsSimulated};
+
+/// The theorem of the compiler: whatever text `compile` leaves in OUT after Done (`IsCompiledText`), it denotes one module. From any contents this module shows
+/// the program's pictures, and its arrays have the fewest bits of all causal schedules of the program's images.
+pub fn correct_law()
+    ensures { (source : List ℕ) (age : ℕ) (enable : Bool) (block : Option ℕ) (text : List ℕ)
+        → IsCompiledText source age enable block text → IsCorrect source age text }
+{
+    dk_compile::correct_law();
+}
 
 /// Laws: an accepted text has one list of names and one of live reads. A text that is accepted at an age has no fault at it, and any other has one fault.
 /// A report that holds has no wrong line and one claim, and any other has one first wrong line.

@@ -1,0 +1,68 @@
+-- The theorem of the compiler on one page: a text that it writes of a program denotes one module, which shows the program's pictures, and whose arrays have the fewest bits of all causal schedules.
+use Rattle.std.specs.Prelude.{◌≡◌, ℕ, ◌+◌, ◌*◌, ◌<◌, ◌≤◌, ◌==◌, nat_lt, Bool, pos, List, [], length, map, slice_get, slice_index, slice_index_or, Option, Some, All}
+use Rattle.dk_base.specs.Types.{width_of}
+use Rattle.dk_base.specs.Frames.{Picture, area, picture_at, pixel_of}
+use Rattle.dk_types.specs.Typed.{Typing, input_types}
+use Rattle.wiring.specs.Netlist.{Netlist, valid_net, dout_net}
+use Rattle.wiring.specs.BufferBits.{array_bits}
+use Rattle.wiring.specs.Snapshot.{Contents, Snapshot, Fit, FitsContents, net_value}
+use Rattle.wiring.specs.Runs.{Runs, RunStops}
+use Rattle.netlist.specs.Names.{NamedNetlist}
+use Rattle.pointwise_ir.specs.Programs.{Program}
+use Rattle.raster_delay.specs.Systems.{System, IsCausal, bits}
+use Rattle.circuit.specs.Driven.{driven}
+use Rattle.verilog_text.specs.Stands.{StandsFor}
+use Rattle.same_phases.specs.Phases.{IsRound, output_picture}
+use Rattle.dk_compile.specs.Limits.{HasSystem, IsAcceptedAt}
+
+-- The inputs' frames, one after another, each with a picture for each input.
+abbrev pub Frames : Type 0
+Frames = List (List Picture)
+
+abbrev pub frame_at : Frames → ℕ → List Picture
+frame_at frames f = slice_index_or frames f []
+
+-- the number at din k in clock q after the reset is pixel q of input k, as far as both go
+abbrev pub Carries : Typing → Frames → (dins : List (List ℕ)) → Type 0
+Carries p frames dins =
+    (k q : ℕ) → k < length p.inputs → q < length dins → q < length frames * area p.size
+    → pos (slice_index (slice_index_or dins q []) k) ≡ pixel_of p.size (λ f. picture_at (frame_at frames f) k) q
+
+-- the numbers at the dins fit the inputs' types
+abbrev pub FitInputs : Typing → (dins : List (List ℕ)) → Type 0
+FitInputs p dins = All (Fit (map width_of (input_types p.inputs))) dins
+
+-- A run from any contents, over a reset clock and then a clock for each list of numbers at the dins; `shots` has the nets' values in each clock.
+pub record IsDriven (m : Netlist) (p : Typing) (dins : List (List ℕ)) (shots : List Snapshot) : Type 0 where
+  pub from : Contents
+  pub to : Contents
+  pub contents : FitsContents m from
+  pub numbers : FitInputs p dins
+  pub run : Runs m from (driven (length p.inputs) dins) shots to
+
+-- No clock of such a run stops. Output k has `valid` 1 from its latency on, and not before. Its `dout` is then the program's picture of the frames that come in, pixel after pixel and frame after frame.
+pub record ShowsPictures (m : Netlist) (p : Typing) (latency : ℕ → ℕ) : Type 0 where
+  pub goes_on : (from : Contents) (dins : List (List ℕ)) (shots : List Snapshot) (array index : ℕ) → FitsContents m from → FitInputs p dins
+      → RunStops m from (driven (length p.inputs) dins) shots array index → ⊥
+  pub valid : (dins : List (List ℕ)) (shots : List Snapshot) → IsDriven m p dins shots
+      → (k c : ℕ) (s : Snapshot) → k < length p.outputs → slice_get shots c ≡ Some s → (net_value s (valid_net k) == 1) ≡ nat_lt (latency k) c
+  pub dout : (dins : List (List ℕ)) (shots : List Snapshot) → IsDriven m p dins shots → (frames : Frames) → All (IsRound p) frames → Carries p frames dins
+      → (k q : ℕ) (s : Snapshot) → k < length p.outputs → slice_get shots (q + latency k + 1) ≡ Some s → q < length frames * area p.size
+      → pos (net_value s (dout_net k)) ≡ pixel_of p.size (λ f. output_picture p (frame_at frames f) k) q
+
+-- The Verilog text is right for the program that the source denotes, at this age.
+pub record IsCorrect (source : List ℕ) (age : ℕ) (verilog : List ℕ) : Type 0 where
+  pub program : Typing
+  pub accepted : IsAcceptedAt source age program
+  -- it denotes one module
+  pub «module» : NamedNetlist
+  pub denotes : StandsFor verilog «module»
+  pub only : (other : NamedNetlist) → StandsFor verilog other → other ≡ «module»
+  -- which shows the program's pictures
+  pub latency : ℕ → ℕ
+  pub shows : ShowsPictures «module».netlist program latency
+  -- and has the fewest bits of all causal schedules of the program's images
+  pub form : Program
+  pub system : System
+  pub has : HasSystem source age program form system
+  pub least : (delays : List ℕ) → IsCausal system delays → array_bits «module».netlist.arrays ≤ bits system delays
