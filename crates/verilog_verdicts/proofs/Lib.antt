@@ -1,3 +1,4 @@
 pub mod Decided
 pub mod Cycles
 pub mod Netted
+pub mod Lexed

@@ -1,12 +1,20 @@
-// That nothing is left without a verdict.
+// Each definition of a fault covers all that its definition of a module leaves.
 
-ghost use Rattle.std.specs.Prelude.{◌⊎◌};
+ghost use Rattle.std.specs.Prelude.{◌⊎◌, ℕ, List};
 ghost use Rattle.netlist.specs.declared.parts.Parts.{Parts};
 ghost use Rattle.netlist.specs.declared.fault.NetFault.{NetFault};
 ghost use Rattle.netlist.specs.Names.{NamedNetlist};
 ghost use Rattle.netlist.specs.Faults.{IsFault as IsNetFault, IsModuleOf};
+ghost use Rattle.verilog_text.specs.declared.token.Token.{Token as OneToken};
+ghost use Rattle.verilog_text.specs.declared.token.LexFault.{LexFault as OneLexFault};
+ghost use Rattle.verilog_text.specs.Lexis.{HasTokens, HasLexFault};
 
 /// A law: all parts make a module or have a fault.
 pub fn every_netlist_law()
     ensures some { (p : Parts) → ((m : NamedNetlist) × IsModuleOf p m) ⊎ ((f : NetFault) × IsNetFault p f) }
+{}
+
+/// A law: each text has tokens or a first fault.
+pub fn every_verilog_text_law()
+    ensures tokens { (text : List ℕ) → ((tokens : List OneToken) × HasTokens text tokens) ⊎ ((f : OneLexFault) × HasLexFault text f) }
 {}

@@ -1,6 +1,6 @@
-//! Laws: each list of parts makes a module or has a fault, and each Verilog text denotes a module or has a fault.
+//! Laws: no parts of a netlist and no Verilog text are without a verdict.
 #![tactic(auto)]
 
 mod laws;
 
-pub use laws::every_netlist_law;
+pub use laws::{every_netlist_law, every_verilog_text_law};
