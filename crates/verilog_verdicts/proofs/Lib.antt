@@ -2,3 +2,5 @@ pub mod Decided
 pub mod Cycles
 pub mod Netted
 pub mod Lexed
+pub mod Readers
+pub mod Total

@@ -1,5 +1,9 @@
 use Rattle.verilog_verdicts.proofs.Lexed.{some_tokens}
+use Rattle.verilog_verdicts.proofs.Total.{some_source}
 use Rattle.verilog_verdicts.proofs.laws.every_verilog_text_law.Goals as goal
 
-pub returns : goal.returns
-returns c = record { tokens = some_tokens }
+pub returns-clause-tokens : goal.returns-clause-tokens
+returns-clause-tokens c text = some_tokens text
+
+pub returns-clause-source : goal.returns-clause-source
+returns-clause-source c before last is = some_source before last is
