@@ -4,3 +4,6 @@ pub mod Netted
 pub mod Lexed
 pub mod Readers
 pub mod Total
+pub mod Sized
+pub mod Spanned
+pub mod Whole
