@@ -108,6 +108,7 @@ crates/value_ranges/README.md
 crates/value_rows/README.md
 crates/vcd_trace/README.md
 crates/verilog_layout/README.md
+crates/verilog_verdicts/README.md
 crates/verilog_lexer/README.md
 crates/verilog_parse/README.md
 crates/verilog_print/README.md
