@@ -1,17 +1,16 @@
 // Rows of a lane, filled with proposals. They claim nothing. Each loop takes its rows as slices: a match on the lane in each clock
 // would keep LLVM from making vector code.
 
+use crate::hints::Habit;
 use crate::sources::Source;
 use batch_plan::Written;
 use lane_rows::{Lane, Row};
 
-// Numbers from a first one on, each by a step after the one before.
+// Numbers from a first one on, which go on as those of a register do.
 #[derive(Clone, Copy)]
 pub(crate) struct Line {
     pub(crate) value: u64,
-    pub(crate) step: u64,
-    // Whether it takes no step in held clocks.
-    pub(crate) waits: bool,
+    pub(crate) habit: Habit,
 }
 
 // At each clock the same number.
@@ -273,9 +272,9 @@ pub(crate) fn fill_load<L: Lane>(to: &mut [L], bit: Source<'_>, value: Source<'_
     }
 }
 
-// A line that takes a step in each clock.
+// A line that takes a step in each clock and does not wrap.
 fn line_on<L: Lane>(to: &mut [L], line: Line) {
-    let step = L::cut(line.step);
+    let step = L::cut(line.habit.step);
     let mut next = L::cut(line.value);
     for t in 0..to.len() {
         to[t] = next;
@@ -283,10 +282,10 @@ fn line_on<L: Lane>(to: &mut [L], line: Line) {
     }
 }
 
-// A line that has taken as many steps before each clock as a row counts. No number depends on the one before, so that LLVM makes
+// A line that has taken as many steps before each clock as a row counts, and does not wrap. No number depends on the one before, so that LLVM makes
 // vector code of it.
 fn line_where<L: Lane>(to: &mut [L], line: Line, steps: &[u16]) {
-    let step = L::cut(line.step);
+    let step = L::cut(line.habit.step);
     let before = match steps.first() {
         Some(steps) => L::cut(steps.word()),
         None => L::cut(0),
@@ -294,6 +293,54 @@ fn line_where<L: Lane>(to: &mut [L], line: Line, steps: &[u16]) {
     let value = L::cut(line.value).difference(step.product(before));
     for t in 0..to.len().min(steps.len()) {
         to[t] = value.sum(step.product(L::cut(steps[t].word())));
+    }
+}
+
+// The first place before which this many steps were taken since the first one. There are at least as many places before it.
+fn place_after(steps: &[u16], count: usize) -> usize {
+    let before = match steps.first() {
+        Some(steps) => *steps,
+        None => 0,
+    };
+    for t in count.min(steps.len())..steps.len() {
+        if steps[t].saturating_sub(before) as usize >= count {
+            return t;
+        }
+    }
+    steps.len()
+}
+
+// How many places a line has up to the last value before it wraps.
+fn places_upto(line: Line, steps: Option<&[u16]>) -> usize {
+    if line.habit.step == 0 || line.value > line.habit.last {
+        return usize::MAX;
+    }
+    let count = ((line.habit.last - line.value) as usize).saturating_add(1);
+    match steps {
+        Some(steps) => place_after(steps, count),
+        None => count,
+    }
+}
+
+// A line from a place on: straight lines, each up to where it wraps.
+fn lines<L: Lane>(to: &mut [L], first: usize, line: Line, steps: Option<&[u16]>) {
+    let mut line = line;
+    let mut from = first;
+    for _line in 0..to.len() {
+        if from >= to.len() {
+            return;
+        }
+        let later = match steps {
+            Some(steps) => Some(steps.split_at(from.min(steps.len())).1),
+            None => None,
+        };
+        let upto = from.saturating_add(places_upto(line, later)).min(to.len());
+        match later {
+            Some(steps) => line_where(&mut to[from..upto], line, steps),
+            None => line_on(&mut to[from..upto], line),
+        }
+        line.value = line.habit.first;
+        from = upto;
     }
 }
 
@@ -314,13 +361,9 @@ pub(crate) fn fill_line<L: Lane>(
     line: Line,
     steps: Option<&[u16]>,
 ) {
-    let first = first.min(to.len());
-    let (front, rest) = to.split_at_mut(first);
+    let (front, _) = to.split_at_mut(first.min(to.len()));
     fill_source(front, row);
-    match steps {
-        Some(steps) => line_where(rest, line, steps.split_at(first.min(steps.len())).1),
-        None => line_on(rest, line),
-    }
+    lines(to, first, line, steps);
 }
 
 // The port en in the clocks from a first one on.

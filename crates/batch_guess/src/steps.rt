@@ -5,6 +5,7 @@ ghost use Rattle.batch_guess.specs.Guess.{KeepsCode};
 
 use crate::fill::{Line, count_steps, first_apart};
 use crate::guess::RowGuess;
+use crate::hints::Change;
 use crate::proposals::{ENABLE, Proposal, propose_access, propose_row};
 use crate::sources::{source_of, source_of_slot};
 use crate::stored::Stored;
@@ -195,38 +196,34 @@ impl RowGuess {
         self.engine.has_enable && source_of_slot(&self.table.rows, ENABLE).at(clock) == 0
     }
 
-    // How a register goes on after the first wrong place: from the right value, by the step 1 if it changes as it did before, or
-    // may have done before a held clock. One that changes in a held clock takes steps in such clocks.
-    fn mended(&mut self, register: usize, value: u64, wrong: usize) -> Line
-        ensures { KeepsCode self.old self.new }
-    {
-        let row = source_of_slot(&self.table.rows, self.engine.slot_of(register));
-        let is = row.at(wrong);
-        let before = wrong.saturating_sub(1);
-        let was = row.at(before);
-        let moved = wrong == 0 || is != was || self.is_held(before);
-        let step = u64::from(value != is && moved);
-        let held = value != is && self.is_held(wrong);
-        self.hints.note_step(register, step, held);
-        self.hints.line_from(register, value)
-    }
-
-    // The value that a register takes after a clock.
-    fn next_value(&self, register: usize, clock: usize) -> Option<u64> {
+    // How a register changes after a clock.
+    fn change_at(&self, register: usize, clock: usize) -> Option<Change> {
         let next = self.engine.code.nexts.get(register)?;
-        Some(source_of(&self.table.rows, next).at(clock))
+        let row = source_of_slot(&self.table.rows, self.engine.slot_of(register));
+        let value = row.at(clock);
+        let before = clock.saturating_sub(1);
+        let moved = clock == 0 || value != row.at(before) || self.is_held(before);
+        Some(Change {
+            value,
+            next: source_of(&self.table.rows, next).at(clock),
+            guessed: row.at(clock.saturating_add(1)),
+            moved,
+            held: self.is_held(clock),
+        })
     }
 
+    // A register goes on after the first wrong place, from the right value.
     fn mend_one(&mut self, place: usize, wrong: usize) -> bool
         ensures { KeepsCode self.old self.new }
     {
         let Some(register) = self.looped_at(place) else {
             return false;
         };
-        let Some(value) = self.next_value(register, wrong) else {
+        let Some(change) = self.change_at(register, wrong) else {
             return false;
         };
-        let line = self.mended(register, value, wrong);
+        self.hints.note_change(register, change);
+        let line = self.hints.line_from(register, change.next);
         self.go_on(register, wrong.saturating_add(1), line)
     }
 
