@@ -38,15 +38,15 @@ image_line p plan m nets k =
     ++ (field (decimal (image_at plan k).width)
     ++ (field (decimal (delay_of plan (image_at plan k).number)) ++ codes "\n"))))
 
+-- `read READER NAME DX DY`: who reads which image, and where
+abbrev pub read_place : Program → LiveRead → List ℕ
+read_place p r = codes "read" ++ (field (name_of p r.f) ++ (field (name_of p r.g) ++ (field (signed_decimal r.dx) ++ field (signed_decimal r.dy))))
+
 -- `read READER NAME DX DY NET AGE`: the live read at place k, by READER of the image NAME, its net, and its age in clocks
 abbrev pub read_line : Program → Plan → NamedNetlist → List Net → (k : ℕ) → List ℕ
 read_line p plan m reads k =
-    codes "read" ++ (field (name_of p (read_at plan k).f)
-    ++ (field (name_of p (read_at plan k).g)
-    ++ (field (signed_decimal (read_at plan k).dx)
-    ++ (field (signed_decimal (read_at plan k).dy)
-    ++ (field (net_name m (net_at reads k))
-    ++ (field (decimal (unsigned_abs (read_age plan (read_at plan k)))) ++ codes "\n"))))))
+    read_place p (read_at plan k) ++ (field (net_name m (net_at reads k))
+    ++ (field (decimal (unsigned_abs (read_age plan (read_at plan k)))) ++ codes "\n"))
 
 -- `output NAME VALID DOUT`: the image of output k, and its ports
 abbrev pub output_line : Program → Plan → NamedNetlist → (k : ℕ) → List ℕ

@@ -1,12 +1,13 @@
 // The lines.
 
-ghost use Rattle.std.specs.Prelude.{◌≡◌, ◌<◌, ◌++◌, length, IfOk, OnOk, decimal, codes};
+ghost use Rattle.std.specs.Prelude.{◌≡◌, ◌<◌, ◌++◌, length, unsigned_abs, IfOk, OnOk, decimal, codes};
 ghost use Rattle.std.specs.Fmt.{signed_decimal};
 ghost use Rattle.verilog_layout.specs.Layout.{net_name};
-ghost use Rattle.net_lines.specs.Lines.{name_of, net_at, field, lines_to, image_line, read_line, output_line, net_lines as all_lines};
+ghost use Rattle.buffer_plan.specs.Plans.{delay_of, read_age};
+ghost use Rattle.net_lines.specs.Lines.{name_of, net_at, image_at, read_at, field, lines_to, image_line, read_place, read_line, output_line, net_lines as all_lines};
 
 use buffer_plan::Plan;
-use dk_base::OutOfMemory;
+use dk_base::{LiveRead, OutOfMemory};
 use itoa::Buffer;
 use netlist::{Module, Net};
 use pointwise_ir::Program;
@@ -58,6 +59,13 @@ fn push_field(out: &mut Vec<u8>, text: &[u8]) -> Result<(), OutOfMemory>
     Ok(())
 }
 
+fn push_name(out: &mut Vec<u8>, ir: &Program, number: u32) -> Result<(), OutOfMemory>
+    ensures { OnOk result (out.new.items ≡ out.old.items ++ field (name_of ir.now number)) }
+{
+    push_field(out, name(ir, number as usize))?;
+    Ok(())
+}
+
 fn push_number(out: &mut Vec<u8>, number: u64) -> Result<(), OutOfMemory>
     ensures { OnOk result (out.new.items ≡ out.old.items ++ field (decimal number)) }
 {
@@ -82,20 +90,60 @@ fn push_net_field(out: &mut Vec<u8>, module: &Module, net: Net) -> Result<(), Ou
     Ok(())
 }
 
+// The delay of the kept image at place k.
+fn delay_at(plan: &Plan, k: usize) -> u64
+    requires { k < length plan.now.system.stencils.images }
+    ensures { result ≡ delay_of plan.now (image_at plan.now k).number }
+{
+    let image = plan.images()[k];
+    let delay = plan.delay(image.number);
+    delay
+}
+
+// The live read at place k.
+fn read_of(plan: &Plan, k: usize) -> LiveRead
+    requires { k < length plan.now.system.stencils.reads }
+    ensures { result ≡ read_at plan.now k }
+{
+    plan.live_reads()[k]
+}
+
+// The age of the live read at place k.
+fn age_at(plan: &Plan, k: usize) -> u64
+    requires { k < length plan.now.system.stencils.reads }
+    ensures { result ≡ unsigned_abs (read_age plan.now (read_at plan.now k)) }
+{
+    let read = plan.live_reads()[k];
+    let age = plan.age(read);
+    age
+}
+
 // The line of the kept image at place k.
 fn push_image(out: &mut Vec<u8>, nets: &NamedNets, k: usize) -> Result<(), OutOfMemory>
     requires within { k < length nets.now.plan.now.system.stencils.images }
     ensures { OnOk result (out.new.items
         ≡ out.old.items ++ image_line nets.now.ir.now nets.now.plan.now nets.now.«module».now nets.now.images.now k) }
 {
-    nets.plan.law();
     let image = nets.plan.images()[k];
     out.extend_from_slice(b"image")?;
-    push_field(out, name(nets.ir, image.number as usize))?;
+    push_name(out, nets.ir, image.number)?;
     push_net_field(out, nets.module, net(nets.images, k))?;
     push_number(out, u64::from(image.width))?;
-    push_number(out, nets.plan.delay(image.number))?;
+    push_number(out, delay_at(nets.plan, k))?;
     out.extend_from_slice(b"\n")?;
+    Ok(())
+}
+
+// Who reads, what is read, and where.
+fn push_place(out: &mut Vec<u8>, ir: &Program, read: LiveRead) -> Result<(), OutOfMemory>
+    ensures { OnOk result (out.new.items
+        ≡ out.old.items ++ read_place ir.now read) }
+{
+    out.extend_from_slice(b"read")?;
+    push_name(out, ir, read.f)?;
+    push_name(out, ir, read.g)?;
+    push_signed(out, read.dx)?;
+    push_signed(out, read.dy)?;
     Ok(())
 }
 
@@ -116,13 +164,9 @@ fn push_read(out: &mut Vec<u8>, nets: &NamedNets, k: usize) -> Result<(), OutOfM
     ensures { OnOk result (out.new.items
         ≡ out.old.items ++ read_line nets.now.ir.now nets.now.plan.now nets.now.«module».now nets.now.reads.now k) }
 {
-    let read = nets.plan.live_reads()[k];
-    let age = nets.plan.age(read);
-    out.extend_from_slice(b"read")?;
-    push_field(out, name(nets.ir, read.f as usize))?;
-    push_field(out, name(nets.ir, read.g as usize))?;
-    push_signed(out, read.dx)?;
-    push_signed(out, read.dy)?;
+    let read = read_of(nets.plan, k);
+    let age = age_at(nets.plan, k);
+    push_place(out, nets.ir, read)?;
     push_age(out, nets.module, net(nets.reads, k), age)?;
     Ok(())
 }
@@ -136,7 +180,7 @@ fn push_output(out: &mut Vec<u8>, nets: &NamedNets, k: usize) -> Result<(), OutO
     nets.plan.law();
     let image = nets.plan.outputs()[k];
     out.extend_from_slice(b"output")?;
-    push_field(out, name(nets.ir, image as usize))?;
+    push_name(out, nets.ir, image)?;
     push_net_field(out, nets.module, Net::Output(2 * k))?;
     push_net_field(out, nets.module, Net::Output(2 * k + 1))?;
     out.extend_from_slice(b"\n")?;
