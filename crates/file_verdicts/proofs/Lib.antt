@@ -1,0 +1,4 @@
+mod Headers
+mod Rasters
+mod NextImages
+mod ImageFiles

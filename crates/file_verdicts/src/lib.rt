@@ -1,0 +1,6 @@
+//! Laws that each file has a verdict: what it is, or its first fault.
+#![tactic(auto)]
+
+mod images;
+
+pub use images::{every_image_file_law, every_image_law};
