@@ -2,3 +2,4 @@ mod Headers
 mod Rasters
 mod NextImages
 mod ImageFiles
+mod ReportTexts

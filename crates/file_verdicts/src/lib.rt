@@ -2,5 +2,7 @@
 #![tactic(auto)]
 
 mod images;
+mod reports;
 
 pub use images::{every_image_file_law, every_image_law};
+pub use reports::every_report_law;
