@@ -3,3 +3,7 @@ mod Rasters
 mod NextImages
 mod ImageFiles
 mod ReportTexts
+mod ValueLines
+mod TraceClocks
+mod TraceTexts
+mod TraceLines
