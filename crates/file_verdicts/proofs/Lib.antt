@@ -7,3 +7,4 @@ mod ValueLines
 mod TraceClocks
 mod TraceTexts
 mod TraceLines
+mod Room

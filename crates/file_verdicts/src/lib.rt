@@ -7,4 +7,4 @@ mod traces;
 
 pub use images::{every_image_file_law, every_image_law};
 pub use reports::every_report_law;
-pub use traces::every_trace_law;
+pub use traces::{every_trace_law, room_law};
