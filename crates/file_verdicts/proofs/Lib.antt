@@ -1,0 +1,10 @@
+mod Headers
+mod Rasters
+mod NextImages
+mod ImageFiles
+mod ReportTexts
+mod ValueLines
+mod TraceClocks
+mod TraceTexts
+mod TraceLines
+mod Room
