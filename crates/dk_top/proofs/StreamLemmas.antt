@@ -68,25 +68,25 @@ only_item (x ∷ y ∷ xs) one = absurd (let e : ⊥ = omega (arith, one) in e)
 module _ (source : List ℕ) (age : ℕ) (enable : Bool) (block : Option ℕ) (p : Typing) (ir : Program) (system : System) (solution : Solution) (plan : Plan) (m : NamedNetlist) (nets reads : List Net) (verilog : List ℕ) (c : IsCompiled source age enable block p ir system solution plan m nets reads verilog) (bits : ℕ) (inputs : (ports p).inputs ≡ bits ∷ []) (outputs : length p.outputs ≡ 1) where
   -- the module has one din of this width
   pub one_width : input_widths ir ≡ bits ∷ []
-  one_width = sym (widths_same p ir (D.form source age enable block p ir system solution plan m nets verilog c)) ∙ inputs
+  one_width = sym (widths_same p ir (D.form source age enable block p ir system solution plan m nets reads verilog c)) ∙ inputs
 
   pub one_input : length ir.inputs ≡ 1
   one_input = sym (length-map ir.inputs (λ (i : Input). width_of i.ty)) ∙ ap length one_width
 
   has_form : IsForm p ir
-  has_form = D.form source age enable block p ir system solution plan m nets verilog c
+  has_form = D.form source age enable block p ir system solution plan m nets reads verilog c
 
   port_types : HasPortTypes ir
-  port_types = D.types source age enable block p ir system solution plan m nets verilog c
+  port_types = D.types source age enable block p ir system solution plan m nets reads verilog c
 
   pub some : 0 < area p.size
-  some = D.some_area source age enable block p ir system solution plan m nets verilog c
+  some = D.some_area source age enable block p ir system solution plan m nets reads verilog c
 
   same : area ir.size ≡ area p.size
-  same = D.same_area source age enable block p ir system solution plan m nets verilog c
+  same = D.same_area source age enable block p ir system solution plan m nets reads verilog c
 
   late : latency_of plan 0 ≡ latency plan
-  late = latency_of_one plan (ap length (D.planned_outputs source age enable block p ir system solution plan m nets verilog c) ∙ outputs)
+  late = latency_of_one plan (ap length (D.planned_outputs source age enable block p ir system solution plan m nets reads verilog c) ∙ outputs)
 
   -- rounds of one input
   in_form : (rounds : List (List (List ℕ))) → AreSampled p.size (bits ∷ []) rounds → AreSampled ir.size (input_widths ir) rounds
@@ -100,7 +100,7 @@ module _ (source : List ℕ) (age : ℕ) (enable : Bool) (block : Option ℕ) (p
       let first : output_at ir 0 ≡ g = ap (λ (gs : List ℕ). slice_index gs 0) has_form.outputs ∙ read_at p.outputs 0 g 0 at in
       let sampled = in_form ((frame ∷ []) ∷ []) ((is, tt), tt) in
       ap (λ h. rastered ir h (frame ∷ [])) first
-      ∙ D.meant source age enable block p ir system solution plan m nets verilog c (frame ∷ []) (is_round ir port_types (frame ∷ []) sampled.0) 0 g at
+      ∙ D.meant source age enable block p ir system solution plan m nets reads verilog c (frame ∷ []) (is_round ir port_types (frame ∷ []) sampled.0) 0 g at
       ∙ sym (append-nil (raster p.size (picture_at (meaning_on p (frame ∷ [])) g)))
       ∙ sym (ap (λ gs. flat_map (λ (image : Image). image.samples) (output_images p.size (types_of p) gs (meaning_on p (frame ∷ [])))) one)
 

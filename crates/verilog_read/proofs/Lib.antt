@@ -1,3 +1,3 @@
 mod Limited
 mod Judged
-mod Spanned
+pub mod Spanned

@@ -5,5 +5,4 @@ pub mod Lexed
 pub mod Readers
 pub mod Total
 pub mod Sized
-pub mod Spanned
 pub mod Whole

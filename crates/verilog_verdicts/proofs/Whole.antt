@@ -25,7 +25,7 @@ use Rattle.verilog_verdicts.proofs.Netted.{some}
 use Rattle.verilog_verdicts.proofs.Lexed.{some_tokens, ended}
 use Rattle.verilog_verdicts.proofs.Total.{some_source}
 use Rattle.verilog_verdicts.proofs.Sized.{FitIn, fit_in}
-use Rattle.verilog_verdicts.proofs.Spanned.{fault_written}
+use Rattle.verilog_read.proofs.Spanned.{fault_written}
 
 abbrev Verdict : List ℕ → Type 0
 Verdict text = ((m : NamedNetlist) × StandsFor text m) ⊎ ((f : TextFault) × IsFault text f)
