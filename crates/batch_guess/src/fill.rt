@@ -272,27 +272,25 @@ pub(crate) fn fill_load<L: Lane>(to: &mut [L], bit: Source<'_>, value: Source<'_
     }
 }
 
-// A line that takes a step in each clock and does not wrap.
-fn line_on<L: Lane>(to: &mut [L], line: Line) {
-    let step = L::cut(line.habit.step);
-    let mut next = L::cut(line.value);
+// Numbers from a first one on, each 1 more than the one before.
+fn line_on<L: Lane>(to: &mut [L], first: u64) {
+    let mut next = L::cut(first);
     for t in 0..to.len() {
         to[t] = next;
-        next = next.sum(step);
+        next = next.sum(L::bit(true));
     }
 }
 
-// A line that has taken as many steps before each clock as a row counts, and does not wrap. No number depends on the one before, so that LLVM makes
-// vector code of it.
-fn line_where<L: Lane>(to: &mut [L], line: Line, steps: &[u16]) {
-    let step = L::cut(line.habit.step);
+// Numbers from a first one on, which grow as a row of counts does. No number depends on the one before, so that LLVM makes vector
+// code of it.
+fn line_where<L: Lane>(to: &mut [L], first: u64, steps: &[u16]) {
     let before = match steps.first() {
         Some(steps) => L::cut(steps.word()),
         None => L::cut(0),
     };
-    let value = L::cut(line.value).difference(step.product(before));
+    let first = L::cut(first).difference(before);
     for t in 0..to.len().min(steps.len()) {
-        to[t] = value.sum(step.product(L::cut(steps[t].word())));
+        to[t] = first.sum(L::cut(steps[t].word()));
     }
 }
 
@@ -310,23 +308,27 @@ fn place_after(steps: &[u16], count: usize) -> usize {
     steps.len()
 }
 
-// How many places a line has up to the last value before it wraps.
+// How many places the first part of a line has: those of one value, or of a counter those up to its last value.
 fn places_upto(line: Line, steps: Option<&[u16]>) -> usize {
-    if line.habit.step == 0 || line.value > line.habit.last {
+    if line.habit.stay == 1 && line.value > line.habit.last {
         return usize::MAX;
     }
-    let count = ((line.habit.last - line.value) as usize).saturating_add(1);
+    let count = if line.habit.stay == 1 {
+        ((line.habit.last - line.value) as usize).saturating_add(1)
+    } else {
+        line.habit.stay
+    };
     match steps {
         Some(steps) => place_after(steps, count),
         None => count,
     }
 }
 
-// A line from a place on: straight lines, each up to where it wraps.
-fn lines<L: Lane>(to: &mut [L], first: usize, line: Line, steps: Option<&[u16]>) {
+// A line from a place on, part by part.
+fn parts<L: Lane>(to: &mut [L], first: usize, line: Line, steps: Option<&[u16]>) {
     let mut line = line;
     let mut from = first;
-    for _line in 0..to.len() {
+    for _part in 0..to.len() {
         if from >= to.len() {
             return;
         }
@@ -336,10 +338,15 @@ fn lines<L: Lane>(to: &mut [L], first: usize, line: Line, steps: Option<&[u16]>)
         };
         let upto = from.saturating_add(places_upto(line, later)).min(to.len());
         match later {
-            Some(steps) => line_where(&mut to[from..upto], line, steps),
-            None => line_on(&mut to[from..upto], line),
+            _ if line.habit.stay != 1 => fill_same(&mut to[from..upto], line.value),
+            Some(steps) => line_where(&mut to[from..upto], line.value, steps),
+            None => line_on(&mut to[from..upto], line.value),
         }
-        line.value = line.habit.first;
+        line.value = if line.habit.stay == 1 || line.value == line.habit.last {
+            line.habit.first
+        } else {
+            line.value.saturating_add(1)
+        };
         from = upto;
     }
 }
@@ -363,7 +370,7 @@ pub(crate) fn fill_line<L: Lane>(
 ) {
     let (front, _) = to.split_at_mut(first.min(to.len()));
     fill_source(front, row);
-    lines(to, first, line, steps);
+    parts(to, first, line, steps);
 }
 
 // The port en in the clocks from a first one on.

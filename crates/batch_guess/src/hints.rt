@@ -4,34 +4,27 @@ use crate::fill::Line;
 use netlist::Netlist;
 use std::alloc::{AllocError, Global};
 
-// How a register goes on.
+// How a register goes on: each value is one more than the one before.
 #[derive(Debug, Clone, Copy)]
 pub struct Habit {
-    // 1, or 0 where it keeps its value.
-    pub step: u64,
-    // A counter wraps after its last value, to its first one.
+    // For how many clocks it keeps a value: 1 for a counter of clocks, the clocks of a line for a counter of lines.
+    pub stay: usize,
+    // It wraps after its last value, to its first one.
     pub last: u64,
     pub first: u64,
-    // Whether it takes no step in held clocks.
+    // Whether it keeps its value in held clocks, which do not count.
     pub waits: bool,
+    // Where its value began after the last wrong guess in the piece, if there was one.
+    pub since: Option<usize>,
 }
 
-// A register takes a step in each clock that is not held, until it is seen to go on otherwise.
-const COUNTS: Habit = Habit {
-    step: 1,
-    last: u64::MAX,
-    first: 0,
-    waits: true,
-};
-
-// The value of a register in a clock, the right one in the next clock, and the one that was guessed there.
+// A register's value in a clock, the right one in the next clock, and the one that was guessed there.
 #[derive(Clone, Copy)]
 pub(crate) struct Change {
+    pub(crate) clock: usize,
     pub(crate) value: u64,
     pub(crate) next: u64,
     pub(crate) guessed: u64,
-    // Whether the value changed a clock before, or may have done before a held clock.
-    pub(crate) moved: bool,
     // Whether the clock is held.
     pub(crate) held: bool,
 }
@@ -57,7 +50,7 @@ fn copies_of(alloc: Global, wiring: &Netlist, most: usize) -> Result<Vec<Vec<u64
 }
 
 impl Hints {
-    // For batches of at most this many clocks, in rows of this many places.
+    // For batches of at most this many clocks, in rows of this many places: each register counts clocks.
     pub(crate) fn new(
         alloc: Global,
         wiring: &Netlist,
@@ -65,7 +58,14 @@ impl Hints {
         long: usize,
     ) -> Result<Hints, AllocError> {
         let words = copies_of(alloc, wiring, most)?;
-        let habits = vec![in alloc; COUNTS; wiring.regs.len()]?;
+        let habit = Habit {
+            stay: 1,
+            last: u64::MAX,
+            first: 0,
+            waits: wiring.enable,
+            since: None,
+        };
+        let habits = vec![in alloc; habit; wiring.regs.len()]?;
         let clocks = vec![in alloc; 0; long]?;
         Ok(Hints {
             words,
@@ -74,41 +74,57 @@ impl Hints {
         })
     }
 
-    // The line that a register takes from a value on.
-    pub(crate) fn line_from(&self, register: usize, value: u64) -> Line {
-        match self.habits.get(register) {
-            Some(habit) => Line {
-                value,
-                habit: *habit,
-            },
-            None => Line {
-                value,
-                habit: COUNTS,
-            },
+    // The line that a register takes from its contents on, at the start of a piece.
+    pub(crate) fn begin(&mut self, register: usize, value: u64) -> Option<Line> {
+        let habit = self.habits.get_mut(register)?;
+        habit.since = None;
+        let habit = *habit;
+        Some(Line { value, habit })
+    }
+
+    // How many clocks before a place count.
+    fn counted(&self, waits: bool, place: usize) -> usize {
+        match self.clocks.get(place) {
+            Some(count) if waits => *count as usize,
+            _ => place,
         }
     }
 
-    // Notes how a register changes: by the step 1 if it changes as it did before. One that then does not take the value that was
-    // guessed wraps. One that changes in a held clock takes steps in such clocks.
-    pub(crate) fn note_change(&mut self, register: usize, change: Change) {
-        let Some(habit) = self.habits.get_mut(register) else {
-            return;
-        };
-        let changes = change.next != change.value;
-        let steps = changes && change.moved;
-        habit.step = u64::from(steps);
-        if steps && change.next != change.guessed {
-            habit.last = change.value;
-            habit.first = change.next;
+    // For how many clocks a register kept a value, up to the clock in which it changes. Where none is known, as before.
+    fn stay_of(&self, habit: Habit, change: Change) -> usize {
+        match habit.since {
+            Some(since) if change.guessed == change.value => {
+                let upto = self.counted(habit.waits, change.clock.saturating_add(1));
+                upto.saturating_sub(self.counted(habit.waits, since)).max(1)
+            }
+            _ => habit.stay,
         }
-        if changes && change.held {
-            habit.waits = false;
+    }
+
+    // The line that a register takes after a wrong guess.
+    pub(crate) fn go_on(&mut self, register: usize, change: Change) -> Option<Line> {
+        let mut habit = *self.habits.get(register)?;
+        if change.next == change.value {
+            habit.stay = usize::MAX;
+        } else {
+            habit.waits = habit.waits && !change.held;
+            habit.stay = self.stay_of(habit, change);
+            habit.since = Some(change.clock.saturating_add(1));
+            if change.value == habit.last || change.next != change.value.saturating_add(1) {
+                habit.last = change.value;
+                habit.first = change.next;
+            }
         }
+        self.habits[register] = habit;
+        Some(Line {
+            value: change.next,
+            habit,
+        })
     }
 
     // What counts the steps of a line, where it takes none in held clocks.
-    pub(crate) fn steps_of(&self, has_enable: bool, line: Line) -> Option<&[u16]> {
-        if has_enable && line.habit.waits {
+    pub(crate) fn steps_of(&self, line: Line) -> Option<&[u16]> {
+        if line.habit.waits {
             Some(&self.clocks)
         } else {
             None

@@ -132,7 +132,7 @@ impl RowGuess {
         ensures { KeepsCode self.old self.new }
     {
         let slot = self.engine.slot_of(register);
-        let steps = self.hints.steps_of(self.engine.has_enable, line);
+        let steps = self.hints.steps_of(line);
         let proposal = Proposal::Line {
             slot,
             first,
@@ -158,7 +158,9 @@ impl RowGuess {
         let Some(register) = self.looped_at(place) else {
             return false;
         };
-        let line = self.hints.line_from(register, stored.reg(register));
+        let Some(line) = self.hints.begin(register, stored.reg(register)) else {
+            return false;
+        };
         self.go_on(register, 0, line)
     }
 
@@ -191,28 +193,21 @@ impl RowGuess {
         wrong
     }
 
-    // Whether a clock is held.
-    fn is_held(&self, clock: usize) -> bool {
-        self.engine.has_enable && source_of_slot(&self.table.rows, ENABLE).at(clock) == 0
-    }
-
     // How a register changes after a clock.
     fn change_at(&self, register: usize, clock: usize) -> Option<Change> {
         let next = self.engine.code.nexts.get(register)?;
         let row = source_of_slot(&self.table.rows, self.engine.slot_of(register));
-        let value = row.at(clock);
-        let before = clock.saturating_sub(1);
-        let moved = clock == 0 || value != row.at(before) || self.is_held(before);
+        let enable = source_of_slot(&self.table.rows, ENABLE);
         Some(Change {
-            value,
+            clock,
+            value: row.at(clock),
             next: source_of(&self.table.rows, next).at(clock),
             guessed: row.at(clock.saturating_add(1)),
-            moved,
-            held: self.is_held(clock),
+            held: self.engine.has_enable && enable.at(clock) == 0,
         })
     }
 
-    // A register goes on after the first wrong place, from the right value.
+    // A register whose guess is wrong after a clock goes on from the right value.
     fn mend_one(&mut self, place: usize, wrong: usize) -> bool
         ensures { KeepsCode self.old self.new }
     {
@@ -222,8 +217,12 @@ impl RowGuess {
         let Some(change) = self.change_at(register, wrong) else {
             return false;
         };
-        self.hints.note_change(register, change);
-        let line = self.hints.line_from(register, change.next);
+        if change.next == change.guessed {
+            return true;
+        }
+        let Some(line) = self.hints.go_on(register, change) else {
+            return false;
+        };
         self.go_on(register, wrong.saturating_add(1), line)
     }
 
