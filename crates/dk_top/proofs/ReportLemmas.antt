@@ -82,6 +82,11 @@ pub nets_whole : (told : Option Files) (name : List ℕ) (age : ℕ) (enable : B
 nets_whole None name age enable block text old new of written = tt
 nets_whole (Some f) name age enable block text old new of written = whole (AreNetLines (bytes_of f name) age enable block) text old new of written
 
+pub nets_front : (told : Option Files) (name : List ℕ) (age : ℕ) (enable : Bool) (block : Option ℕ) (text : List ℕ) (old new : Option (List ℕ)) → IfSome told (λ f. AreNetLines (bytes_of f name) age enable block text) → ReportsFront text old new
+    → IfSome told (λ f. GainsText (AreNetLines (bytes_of f name) age enable block) old new ending.WriteFault)
+nets_front None name age enable block text old new of written = tt
+nets_front (Some f) name age enable block text old new of written = front (AreNetLines (bytes_of f name) age enable block) text old new of written
+
 pub claim_whole : (told : Option Files) (program report : List ℕ) (claim : Claim) (text : List ℕ) (old new : Option (List ℕ)) → IfSome told (λ f. IsChecked (bytes_of f program) (bytes_of f report) claim) → text ≡ holds_line claim.bits claim.latency → IsIfTold new (grown old text)
     → IfSome told (λ f. GainsText (IsClaimLine (bytes_of f program) (bytes_of f report)) old new ending.Done)
 claim_whole None program report claim text old new of is written = tt
