@@ -6,3 +6,7 @@ pub mod Readers
 pub mod Total
 pub mod Sized
 pub mod Whole
+pub mod Constants
+pub mod Sources
+pub mod Bounded
+pub mod Printed

@@ -1,4 +1,4 @@
-// Each definition of a fault covers all that its definition of a module leaves.
+// Each definition of a fault covers all that its definition of a module leaves, and what a text denotes is what a text can describe.
 
 ghost use Rattle.std.specs.Prelude.{◌≡◌, ◌⊎◌, ◌++◌, ◌∷◌, [], ℕ, List};
 ghost use Rattle.std.specs.Global.{Vec as HeldList};
@@ -15,6 +15,7 @@ ghost use Rattle.verilog_text.specs.Lexis.{HasTokens, HasLexFault};
 ghost use Rattle.verilog_text.specs.Grammar.{Source, Module};
 ghost use Rattle.verilog_text.specs.Stands.{StandsFor};
 ghost use Rattle.verilog_text.specs.Faults.{IsModule, IsFault};
+ghost use Rattle.verilog_layout.specs.Printable.{IsPrintable};
 
 /// A law: all parts make a module or have a fault.
 pub fn every_netlist_law()
@@ -28,3 +29,10 @@ pub fn every_verilog_text_law()
         → ((s : Source) × Module (before ++ last ∷ []) s) ⊎ ((k : ℕ) × IsFaulty IsModule (before ++ last ∷ []) k) }
     ensures some { (text : HeldList ℕ) → ((m : NamedNetlist) × StandsFor text.items m) ⊎ ((f : OneFault) × IsFault text.items f) }
 {}
+
+/// A law: a module that a text denotes can be printed. It keeps the net rules, its names fit, and its arrays have no more bits than a text may have.
+pub fn printable_law()
+    ensures printable { (text : HeldList ℕ) (m : NamedNetlist) → StandsFor text.items m → IsPrintable m }
+{
+    netlist::rules_kept_law();
+}
