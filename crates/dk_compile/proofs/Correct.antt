@@ -1,18 +1,15 @@
 -- The theorem of the compiler, from what is proved of a compiled text.
-use Rattle.std.proofs.Common.{mul-pos, ◌≡◌, ℕ, ◌+◌, ◌*◌, ◌/◌, ◌<◌, ◌≤◌, Bool, List, [], ◌∷◌, length, map, Option, Some, refl, sym, ap, subst, ◌∙◌, arith}
-use Rattle.std.specs.Prelude.{ℤ, pos, slice_get, slice_index, slice_index_or, All}
-use Rattle.std.proofs.lemmas.List.{length-map}
+use Rattle.std.proofs.Common.{mul-pos, ◌≡◌, ℕ, ◌*◌, ◌<◌, ◌≤◌, Bool, List, [], ◌∷◌, length, map, Option, refl, sym, ap, subst, ◌∙◌}
+use Rattle.std.specs.Prelude.{ℤ, pos, slice_index, All}
 use Rattle.std.proofs.lemmas.List.Elements.{All-get_or, All-weaker}
 use Rattle.std.proofs.lemmas.Nat.{div_below}
-use Rattle.dk_base.specs.declared.ty.Ty.{Ty}
 use Rattle.dk_base.specs.Types.{width_of}
 use Rattle.dk_base.specs.Frames.{Size, Picture, area, column, row, frame_of, picture_at, pixel_of}
-use Rattle.dk_types.specs.declared.typed.TypedInput.{TypedInput}
 use Rattle.dk_types.specs.Typed.{Typing, input_types}
 use Rattle.wiring.specs.declared.netlist.Net.{Net}
 use Rattle.wiring.specs.Netlist.{Netlist}
 use Rattle.wiring.specs.BufferBits.{array_bits}
-use Rattle.wiring.specs.Snapshot.{Contents, Snapshot, Fit, FitsContents}
+use Rattle.wiring.specs.Snapshot.{Contents, Snapshot, Fit}
 use Rattle.wiring.specs.Runs.{Runs, RunStops}
 use Rattle.netlist.specs.Names.{NamedNetlist}
 use Rattle.pointwise_ir.specs.declared.program.Input.{Input}

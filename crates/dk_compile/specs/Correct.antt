@@ -1,5 +1,5 @@
 -- The theorem of the compiler on one page: a text that it writes of a program denotes one module, which shows the program's pictures, and whose arrays have the fewest bits of all causal schedules.
-use Rattle.std.specs.Prelude.{◌≡◌, ℕ, ◌+◌, ◌*◌, ◌<◌, ◌≤◌, ◌==◌, nat_lt, Bool, pos, List, [], length, map, slice_get, slice_index, slice_index_or, Option, Some, All}
+use Rattle.std.specs.Prelude.{◌≡◌, ℕ, ◌+◌, ◌*◌, ◌<◌, ◌≤◌, ◌==◌, nat_lt, pos, List, [], length, map, slice_get, slice_index, slice_index_or, Some, All}
 use Rattle.dk_base.specs.Types.{width_of}
 use Rattle.dk_base.specs.Frames.{Picture, area, picture_at, pixel_of}
 use Rattle.dk_types.specs.Typed.{Typing, input_types}

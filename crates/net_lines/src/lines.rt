@@ -221,7 +221,11 @@ fn push_outputs(out: &mut Vec<u8>, nets: &NamedNets) -> Result<(), OutOfMemory>
 pub fn net_lines(alloc: Global, nets: &NamedNets) -> Result<Vec<u8>, OutOfMemory>
     ensures { IfOk result (λ text. text.items ≡ all_lines nets.now.ir.now nets.now.plan.now nets.now.«module».now nets.now.images.now nets.now.reads.now) }
 {
-    let lines = nets.images.len().saturating_add(nets.reads.len()).min(1 << 20);
+    let lines = nets
+        .images
+        .len()
+        .saturating_add(nets.reads.len())
+        .min(1 << 20);
     let mut text = Vec::with_capacity(alloc, LINE_BYTES * lines)?;
     push_images(&mut text, nets)?;
     push_reads(&mut text, nets)?;

@@ -1,5 +1,4 @@
-use Rattle.std.proofs.Common.{◌≡◌, suc, ◌+◌, ℕ, [], ◌∷◌, ◌++◌, List, sym, subst, arith}
-use Rattle.wiring.specs.declared.netlist.Net.{Net}
+use Rattle.std.proofs.Common.{◌≡◌, suc, ◌+◌, ℕ, sym, subst, arith}
 use Rattle.circuit.specs.Taps.{AreTapsOf}
 use Rattle.circuit.proofs.Behaving.{tap_room, next_tap}
 use Rattle.circuit.proofs.finishing.read_nets.Goals as goal

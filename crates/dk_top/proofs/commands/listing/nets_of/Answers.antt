@@ -7,6 +7,6 @@ returns-in-Ok-net_lines-clause-lines c =
     let circuit = c.in-Ok.circuit in
     let lines : List ℕ = c.in-Ok-net_lines.lines.items in
     let are = subst (λ reads. lines ≡ net_lines circuit.ir circuit.plan circuit.«module» circuit.nets.items reads) c.deref-2.ensures.value
-        (subst (λ nets. lines ≡ net_lines circuit.ir circuit.plan circuit.«module» nets c.deref-2.result.now) c.deref.ensures.value c.in-Ok-net_lines.ensures)
+    (subst (λ nets. lines ≡ net_lines circuit.ir circuit.plan circuit.«module» nets c.deref-2.result.now) c.deref.ensures.value c.in-Ok-net_lines.ensures)
     in
     record { compiled = circuit; from = c.in-Ok.ensures.compiled; are = are }
