@@ -364,7 +364,12 @@ ended() {
         (trap '' PIPE && echo >&4) 2>/dev/null && echo 'it reads' >left
         exec 4>&-
     } &
-    sh -c "$3" </dev/null >shown 2>&1
+    # (where this test was begun in the background, SIGINT and SIGQUIT are ignored)
+    if env --default-signal true 2>/dev/null; then
+        env --default-signal sh -c "$3" </dev/null >shown 2>&1
+    else
+        sh -c "$3" </dev/null >shown 2>&1
+    fi
     got=$?
     wait
     [ "$got" = "$2" ] && [ ! -e left ] || wrong "SIG$1 to $3: status $got, $(cat shown left 2>/dev/null)"
