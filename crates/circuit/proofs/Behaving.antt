@@ -36,6 +36,8 @@ use Rattle.net_build.specs.Indices.{read_indices, put_indices}
 use Rattle.net_build.proofs.Parts.{Includes-refl}
 use Rattle.net_build.proofs.Runs.{clock_more}
 use Rattle.net_build.proofs.Grown.{net_more, width_more}
+use Rattle.net_build.specs.Depth.{IsWithin}
+use Rattle.net_build.proofs.Depth.{within_more}
 use Rattle.net_build.proofs.Control.{made_more, made_wider, made_wire, made_net, outputs_control}
 use Rattle.net_build.proofs.Reading.{outputs_read}
 use Rattle.net_build.proofs.Indexed.{reads_last, puts_last}
@@ -56,7 +58,7 @@ use Rattle.line_buffer.specs.Fills.{HasRight, AreFilled}
 use Rattle.line_buffer.proofs.Filling.{fills_more, index_control_more}
 use Rattle.circuit.specs.Forms.{Shapes, Form, HasProperty, shapes_of, first_array, end_array}
 use Rattle.edge_select.specs.declared.frame_tests.FrameTests.{FrameTests}
-use Rattle.circuit.specs.Images.{IsLine, AreBuilt, AreBuiltWith, words_in, reads_directly, source_of, direct_source}
+use Rattle.circuit.specs.Images.{IsLine, AreBuilt, AreBuiltWith, words_in, reads_directly, source_of, direct_source, image_levels}
 use Rattle.circuit.proofs.Keeping.{adds_for}
 use Rattle.circuit.specs.Behaviour.{net_of, is_valid, ShowsPixels, read_net, AreReadNets, Behaves, HasPorts}
 use Rattle.circuit.specs.Nets.{AreNetsOf, IsApart, kept_source_of}
@@ -453,6 +455,7 @@ module _ (m b : Netlist) (p : Program) (plan : Plan) (form : Form) (nets : List 
       let made : IsMadeOf m base (OfNet (net_of plan nets f)) = subst (λ (e : Bool). IsMadeOf m (source_of form plan f e) (OfNet (net_of plan nets f))) (sym grows.enable) (made_more m last (source_of form plan f last.enable) grows ((line f kept).apart aged past)) in
       record {
         net = made;
+        levels = λ e n is_body among. subst (λ (b : Bool). IsWithin m (source_of form plan f b) (image_levels form e n) (OfNet (net_of plan nets f))) (sym grows.enable) (within_more m last (source_of form plan f last.enable) grows ((line f kept).levels aged e n is_body among));
         dout = λ k at. made_wire m (dout_net k) (Copy (atom.Net (net_of plan nets f))) base (dout_right k f at) (made_net m base (net_of plan nets f) made);
         put = λ x u low high at e.
             put_made m form plan copies f (net_of plan nets f) (filled f kept) kept_base (control_kept form plan f m.enable) (own_kept form plan f m.enable) closed.whole.rules.updated

@@ -25,11 +25,15 @@ use Rattle.net_build.specs.Indices.{read_indices, put_indices}
 use Rattle.net_build.proofs.Parts.{Includes-refl, Includes-trans}
 use Rattle.net_build.proofs.Grown.{net_more, width_more}
 use Rattle.net_build.proofs.Control.{made_more, made_wider}
+use Rattle.net_build.specs.Depth.{IsWithin}
+use Rattle.net_build.proofs.Depth.{within_more, within_wider, within_made}
+use Rattle.circuit.specs.Depths.{ChoosesAmong}
 use Rattle.net_build.proofs.Standing.{ready_first, ready_last}
 use Rattle.net_build.proofs.Reading.{reads_joined, none_reads}
 use Rattle.net_build.proofs.Indexed.{reads_last, puts_last}
 use Rattle.net_build.proofs.Updating.{all_updated}
-use Rattle.pointwise_ir.specs.Programs.{Program}
+use Rattle.pointwise_ir.specs.Programs.{Program, IsBody}
+use Rattle.pointwise_ir.specs.Trees.{Tree}
 use Rattle.buffer_plan.specs.Plans.{Plan, IsPlan, place_in, ages_of, read_age}
 use Rattle.line_buffer.specs.Buffers.{is_new, IsBuffer}
 use Rattle.line_buffer.specs.Indices.{is_direct}
@@ -42,7 +46,7 @@ use Rattle.line_buffer.proofs.Chaining.{copies_joined}
 use Rattle.circuit.specs.Taps.{Keeps, taps_at, IsTapOf, size_in}
 use Rattle.circuit.specs.Reads.{reads_in}
 use Rattle.circuit.specs.Forms.{Shapes, Form, IsBuffered, shapes_of, first_array, end_array}
-use Rattle.circuit.specs.Images.{IsBodyNet, IsImageNet, IsLine, AreBuilt, words_in, reads_directly, tap_source_of, source_of, direct_source, ports_of, AreBuiltWith}
+use Rattle.circuit.specs.Images.{IsBodyNet, IsImageNet, IsLine, AreBuilt, words_in, reads_directly, tap_source_of, source_of, direct_source, image_levels, ports_of, AreBuiltWith}
 use Rattle.circuit.proofs.Lasting.{running_more}
 use Rattle.edge_select.specs.declared.frame_tests.FrameTests.{FrameTests}
 use Rattle.edge_select.specs.FrameTests.{AreFrameTests, IsApart}
@@ -120,12 +124,14 @@ module _ (new old : Netlist) (p : Program) (plan : Plan) (form : Form) (copies m
       input = λ low. is.input low ∙ ap (λ (e : Bool). din_net (record old { enable = e }) g) (sym grows.enable);
       body = body_lasts;
       apart = λ aged low. subst (λ (e : Bool). IsMadeOf new (source_of form plan g e) (OfNet net)) (sym grows.enable) (made_more new old (source_of form plan g old.enable) grows (is.apart aged low));
+      levels = λ aged e n is_body among.
+          subst (λ (b : Bool). IsWithin new (source_of form plan g b) (image_levels form e n) (OfNet net)) (sym grows.enable) (within_more new old (source_of form plan g old.enable) grows (is.levels aged e n is_body among));
       direct = made_more new old (direct_source form plan) grows is.direct;
       buffer = subst (λ (ts : List Net). IsBuffer new more_copies (form.places plan g) (ages_of plan g) ts net) (sym (same_taps g there)) buffer_lasts;
       bits = is.bits;
       made = λ k age tap ea some et.
-          subst (λ (e : Bool). IsMadeOf new (tap_source_of form plan g e) (OfNet tap)) (sym grows.enable)
-          (made_more new old (tap_source_of form plan g old.enable) grows (is.made k age tap ea some (subst (λ (ts : List Net). slice_get ts k ≡ Some tap) (same_taps g there) et)));
+          subst (λ (e : Bool). IsWithin new (tap_source_of form plan g e) form.tap_levels (OfNet tap)) (sym grows.enable)
+          (within_more new old (tap_source_of form plan g old.enable) grows (is.made k age tap ea some (subst (λ (ts : List Net). slice_get ts k ≡ Some tap) (same_taps g there) et)));
       fills = fills_wider new old (reads_directly form plan) (reads_directly form plan) copies more_copies (first_array form.shapes plan g) (end_array form.shapes plan g) net grows (λ x l h is. is) among is.fills;
       each = each_lasts;
     }
@@ -212,18 +218,24 @@ module _ (b2 b1 b0 : Netlist) (p : Program) (plan : Plan) (form : Form) (k : ℕ
       let number : entry.number ≡ h = at_place images h none kept in
       subst (λ (j : ℕ). IsLine b0 p plan form built.copies taps j (slice_index_or nets (place_in plan h) (Input 0))) number (built.line (place_in plan h) entry (low h less kept) (slice_get_at images (place_in plan h) none kept))
 
-  tap_made : 1 ≤ plan.system.age → (r : LiveRead) (tap : Net) → Contains (reads_in plan g) r → IsTapOf plan taps r tap → IsMadeOf b0 (source_of form plan g b0.enable) (OfNet tap)
-  tap_made some r tap has is =
+  tap_within : 1 ≤ plan.system.age → (r : LiveRead) (tap : Net) → Contains (reads_in plan g) r → IsTapOf plan taps r tap → IsWithin b0 (source_of form plan g b0.enable) form.tap_levels (OfNet tap)
+  tap_within some r tap has is =
       let (kept, less) = reader r has in
       let least = aged r has in
       let positive : 0 < is.age = (let e = is.is_age in omega (arith, ints, some, least, e)) in
-      made_wider b0 (tap_source_of form plan r.g b0.enable) (source_of form plan g b0.enable) (tap_in_source form plan g b0.enable r has) ((line_of r.g less kept).made is.place is.age tap is.aged positive is.there)
+      within_wider b0 (tap_source_of form plan r.g b0.enable) (source_of form plan g b0.enable) (tap_in_source form plan g b0.enable r has) ((line_of r.g less kept).made is.place is.age tap is.aged positive is.there)
 
   apart_is : 1 ≤ plan.system.age → length p.inputs ≤ g → IsMadeOf b2 (source_of form plan g b2.enable) (OfNet net)
   apart_is some no_input =
       let base = source_of form plan g b0.enable in
       subst (λ (e : Bool). IsMadeOf b2 (source_of form plan g e) (OfNet net)) (sym grown.enable)
-      (made_more b2 b1 base buffered.adds.includes (image.made no_input base (control_source form plan g b0.enable) (tap_made some)))
+      (made_more b2 b1 base buffered.adds.includes (image.made no_input base (control_source form plan g b0.enable) (λ r tap has is. within_made (tap_within some r tap has is))))
+
+  levels_are : 1 ≤ plan.system.age → (e : Tree) (n : ℕ) → IsBody p g e → ChoosesAmong plan g e n → IsWithin b2 (source_of form plan g b2.enable) (image_levels form e n) (OfNet net)
+  levels_are some e n is_body among =
+      let base = source_of form plan g b0.enable in
+      subst (λ (b : Bool). IsWithin b2 (source_of form plan g b) (image_levels form e n) (OfNet net)) (sym grown.enable)
+      (within_more b2 b1 base buffered.adds.includes (image.levels e n is_body among base form.tap_levels (control_source form plan g b0.enable) (tap_within some)))
 
   -- no path leads from a long array to a tap of an earlier image, at any age
   tap_direct : (r : LiveRead) (tap : Net) → Contains (reads_in plan g) r → IsTapOf plan taps r tap → IsMadeOf b0 (direct_source form plan) (OfNet tap)
@@ -236,7 +248,7 @@ module _ (b2 b1 b0 : Netlist) (p : Program) (plan : Plan) (form : Form) (k : ℕ
             subst (λ (n : Net). IsMadeOf b0 (direct_source form plan) (OfNet n)) (sym same) line.direct
         | inr later ↦
             let positive : 0 < is.age = omega (arith, later) in
-            made_wider b0 (tap_source_of form plan r.g b0.enable) (direct_source form plan) (tap_in_direct form plan r.g b0.enable) (line.made is.place is.age tap is.aged positive is.there)
+            made_wider b0 (tap_source_of form plan r.g b0.enable) (direct_source form plan) (tap_in_direct form plan r.g b0.enable) (within_made (line.made is.place is.age tap is.aged positive is.there))
       ]
 
   direct_net : IsMadeOf b2 (direct_source form plan) (OfNet net)
@@ -250,11 +262,11 @@ module _ (b2 b1 b0 : Netlist) (p : Program) (plan : Plan) (form : Form) (k : ℕ
       let there : x < length b2.arrays = omega (arith, to, end_is) in
       subst (λ (w : ℕ). form.property w (read_indices b2 x) (put_indices b2 x)) (words_here x there) (buffered.each x (omega (arith, from, first_is)) there)
 
-  own_made : (j age : ℕ) (tap : Net) → slice_get (ages_of plan g) j ≡ Some age → 0 < age → slice_get own j ≡ Some tap → IsMadeOf b2 (tap_source_of form plan g b2.enable) (OfNet tap)
+  own_made : (j age : ℕ) (tap : Net) → slice_get (ages_of plan g) j ≡ Some age → 0 < age → slice_get own j ≡ Some tap → IsWithin b2 (tap_source_of form plan g b2.enable) form.tap_levels (OfNet tap)
   own_made j age tap ea some et =
       let first = length b1.arrays in
       let end = length b1.arrays + length (form.shapes plan g) in
-      made_wider b2 (is_short form.long b2 first end) (tap_source_of form plan g b2.enable)
+      within_wider b2 (is_short form.long b2 first end) (tap_source_of form plan g b2.enable)
       (short_tap form plan g b2 first end first_is (ap (λ (n : ℕ). n + length (form.shapes plan g)) first_is) (λ x lt. words_here x (omega (arith, lt, end_is, first_is))))
       (buffered.made j age tap ea some et)
 
@@ -274,6 +286,7 @@ module _ (b2 b1 b0 : Netlist) (p : Program) (plan : Plan) (form : Form) (k : ℕ
     input = λ is_input. image.input is_input ∙ ap (λ (e : Bool). din_net (record b1 { enable = e }) g) (sym buffered.adds.includes.enable);
     body = body_is;
     apart = apart_is;
+    levels = levels_are;
     direct = direct_net;
     buffer = subst (λ (ts : List Net). IsBuffer b2 copies' (form.places plan g) (ages_of plan g) ts net) (sym own_taps) own_buffer;
     bits = buffered.bits;

@@ -1,5 +1,5 @@
 -- One read more among which a net is chosen.
-use Rattle.std.proofs.Common.{◌≡◌, ◌⊎◌, ℕ, zero, suc, ◌<◌, ◌==◌, Bool, List, [], ◌∷◌, ◌++◌, length, Option, Some, None, refl, sym, ap, subst, ◌∙◌, inl, inr, arith}
+use Rattle.std.proofs.Common.{◌≡◌, ◌⊎◌, ℕ, zero, suc, ◌<◌, ◌==◌, Bool, List, [], ◌∷◌, ◌++◌, length, Option, Some, None, refl, sym, ap, subst, ◌∙◌, inl, inr, arith, ◌+◌, ◌≤◌}
 use Rattle.std.specs.Prelude.{IfSome, Contains, if◌then◌else◌}
 use Rattle.dk_base.specs.declared.stencils.LiveRead.{LiveRead}
 use Rattle.dk_base.specs.Frames.{Size, column, row}
@@ -16,6 +16,10 @@ use Rattle.wiring.specs.Sizes.{IsWidth, IsConstant}
 use Rattle.std.proofs.Math.Pow.{pow_pos}
 use Rattle.net_build.specs.Draft.{IsNet, IsOperand}
 use Rattle.net_build.specs.Control.{IsMadeOf}
+use Rattle.net_build.specs.Depth.{IsWithin, IsOver}
+use Rattle.net_build.proofs.Depth.{within_more, within_deeper, within_made}
+use Rattle.circuit.specs.Depths.{MayMean, MeansAtMost, IsOverTaps, test_levels}
+use Rattle.circuit.proofs.Depths.{most_last, most_fewer, all_within}
 use Rattle.net_build.specs.Logic.{AreMadeOf, Computes, IsGate}
 use Rattle.net_build.proofs.Parts.{Includes-refl, Includes-trans}
 use Rattle.net_build.proofs.Logic.{Source, given_source, number_source, choose_computes, first_in, second_in}
@@ -83,6 +87,11 @@ module _ (b first : Netlist) (plan : Plan) (taps : List (List Net)) (f : ℕ) (r
   fewer_made None h = h
   fewer_made (Some n) h = fewer n h
 
+  fewer_levels : (o : Option Net) → ((k : ℕ) → MeansAtMost (size_in plan) leaf reads k → IfSome o (IsOverTaps b first plan taps reads (k + test_levels))) →
+      (k : ℕ) → MeansAtMost (size_in plan) leaf (reads ++ r ∷ []) k → IfSome o (IsOverTaps b first plan taps (reads ++ r ∷ []) (k + test_levels))
+  fewer_levels None h k most = h k (most_fewer (size_in plan) leaf reads r k most)
+  fewer_levels (Some n) h k most = λ base j has own. h k (most_fewer (size_in plan) leaf reads r k most) base j has (λ q tap among is_tap. own q tap (old_in reads r q among) is_tap)
+
   -- a read that no pixel is led to, or of another image, changes nothing
   pub choice_kept : (o : Option Net) → ((x y : ℕ) → x < plan.system.stencils.width → y < plan.system.stencils.height → r.g ≡ leaf.image → LeadBy (size_in plan) leaf.steps r.dx r.dy x y → ⊥) → ((q : ℕ) → column (size_in plan) q < plan.system.stencils.width) → ((q : ℕ) → row (size_in plan) q < plan.system.stencils.height) →
       IsChoice b first plan taps f reads leaf bits o → IsChoice b first plan taps f (reads ++ r ∷ []) leaf bits o
@@ -91,6 +100,7 @@ module _ (b first : Netlist) (plan : Plan) (taps : List (List Net)) (f : ℕ) (r
     width = is.width;
     value = λ m from before c s run q e. kept (size_in plan) plan taps reads r leaf (column (size_in plan) q) (row (size_in plan) q) s (worth_of s o) (worth_of s o) (off (column (size_in plan) q) (row (size_in plan) q) (wide q) (high q)) refl (is.value m from before c s run q e);
     made = fewer_made o is.made;
+    levels = fewer_levels o is.levels;
   }
 
   -- a read of another image changes nothing
@@ -100,6 +110,7 @@ module _ (b first : Netlist) (plan : Plan) (taps : List (List Net)) (f : ℕ) (r
     width = is.width;
     value = λ m from before c s run q e. kept (size_in plan) plan taps reads r leaf (column (size_in plan) q) (row (size_in plan) q) s (worth_of s o) (worth_of s o) (λ same on. other same) refl (is.value m from before c s run q e);
     made = fewer_made o is.made;
+    levels = fewer_levels o is.levels;
   }
 
   -- one to which every pixel is led is taken
@@ -110,6 +121,7 @@ module _ (b first : Netlist) (plan : Plan) (taps : List (List Net)) (f : ℕ) (r
     width = wide_tap;
     value = λ m from before c s run q e. taken (size_in plan) plan taps reads r leaf (column (size_in plan) q) (row (size_in plan) q) s tap (net_value s tap) same (on (column (size_in plan) q) (row (size_in plan) q) (wide q) (high q)) is refl;
     made = λ base has own. made_more b first base grows (own r tap (last_in reads r) is);
+    levels = λ k most base j has own. within_deeper (omega arith) (within_more b first base grows (own r tap (last_in reads r) is));
   }
 
 -- a test, a tap and a choice that are made of the base
@@ -132,9 +144,9 @@ from_all b base test tap o t p rest n has = elim (first_of test (tap ∷ choice_
     of_choice (Some x) h (suc k, lt, e) = absurd (let f : ⊥ = omega (arith, lt) in f)
 
 -- and else a test chooses between its tap and what was chosen before
-pub choice_tested : (new mid old first : Netlist) (plan : Plan) (taps : List (List Net)) (f : ℕ) (reads : List LiveRead) (r : LiveRead) (leaf : LeafRead) (bits : ℕ) (o : Option Net) (test tap net : Net) → r.g ≡ leaf.image → IsTapOf plan taps r tap → Includes new mid → Includes mid old → Includes old first →
-    IsPixelTest mid plan f (LeadBy (size_in plan) leaf.steps r.dx r.dy) test → Computes new mid (test ∷ (tap ∷ choice_nets o)) bits (chosen_by test tap o) net → IsChoice old first plan taps f reads leaf bits o → IsChoice new first plan taps f (reads ++ r ∷ []) leaf bits (Some net)
-choice_tested new mid old first plan taps f reads r leaf bits o test tap net same is_tap late early begun tests one before =
+pub choice_tested : (new mid old first : Netlist) (plan : Plan) (taps : List (List Net)) (f : ℕ) (reads : List LiveRead) (r : LiveRead) (leaf : LeafRead) (bits : ℕ) (o : Option Net) (test tap net : Net) → r.g ≡ leaf.image → ((MayMean (size_in plan) leaf r → ⊥) → ⊥) → IsTapOf plan taps r tap → Includes new mid → Includes mid old → Includes old first →
+    IsPixelTest mid plan f (LeadBy (size_in plan) leaf.steps r.dx r.dy) test → Computes new mid (test ∷ (tap ∷ choice_nets o)) bits (chosen_by test tap o) net → IsOver new mid 1 (test ∷ (tap ∷ choice_nets o)) net → IsChoice old first plan taps f reads leaf bits o → IsChoice new first plan taps f (reads ++ r ∷ []) leaf bits (Some net)
+choice_tested new mid old first plan taps f reads r leaf bits o test tap net same some is_tap late early begun tests one over before =
     let grows : Includes new old = Includes-trans new mid old late early in
     let whole : Includes mid first = Includes-trans mid old first early begun in
     let held : IsChoice mid first plan taps f reads leaf bits o = choice_more mid old early first plan taps f reads leaf bits o before in
@@ -148,12 +160,26 @@ choice_tested new mid old first plan taps f reads r leaf bits o test tap net sam
           (one.value m s run.clock.whole.includes run.clock.at.snapshot.settled) (now.value m from before c s run q e);
       made = λ base has own.
           let control : HasControl mid.enable base = subst (λ (e : Bool). HasControl e base) (sym (early.enable ∙ begun.enable)) has in
-          one.made_of base (from_all mid base test tap o (tests.made base control) (made_more mid first base whole (own r tap (last_in reads r) is_tap)) (rest o held.made base has (λ q t among is. own q t (old_in reads r q among) is)));
+          one.made_of base (from_all mid base test tap o (within_made (tests.within base control)) (made_more mid first base whole (own r tap (last_in reads r) is_tap)) (rest o held.made base has (λ q t among is. own q t (old_in reads r q among) is)));
+      levels = λ k most base j has own.
+          let control : HasControl mid.enable base = subst (λ (e : Bool). HasControl e base) (sym (early.enable ∙ begun.enable)) has in
+          elim (most_last (size_in plan) leaf reads r k most) as (λ _. IsWithin new base (k + test_levels + j) (OfNet net)) [
+            | inl (never, fewer) ↦ absurd (some never)
+            | inr (i, less, fewer) ↦ within_deeper (let g : 1 + (i + test_levels + j) ≤ k + test_levels + j = omega (arith, less) in g)
+                (over base (i + test_levels + j) (all_within mid base (i + test_levels + j) test tap o
+                (within_deeper (let g : test_levels ≤ i + test_levels + j = omega arith in g) (tests.within base control))
+                (within_deeper (let g : j ≤ i + test_levels + j = omega arith in g) (within_more mid first base whole (own r tap (last_in reads r) is_tap)))
+                (deep (i + test_levels) o (held.levels i fewer) base j has (λ q t among is. own q t (old_in reads r q among) is))))
+          ];
     }
   where
     rest : (o : Option Net) → IfSome o (IsMadeOfTaps mid first plan taps reads) → (base : Holder → Bool) → HasControl first.enable base → ((q : LiveRead) (t : Net) → Contains reads q → IsTapOf plan taps q t → IsMadeOf first base (OfNet t)) → IfSome o (λ n. IsMadeOf mid base (OfNet n))
     rest None h base has own = h
     rest (Some n) h base has own = h base has own
+
+    deep : (k : ℕ) (o : Option Net) → IfSome o (IsOverTaps mid first plan taps reads k) → (base : Holder → Bool) (j : ℕ) → HasControl first.enable base → ((q : LiveRead) (t : Net) → Contains reads q → IsTapOf plan taps q t → IsWithin first base j (OfNet t)) → IfSome o (λ n. IsWithin mid base (k + j) (OfNet n))
+    deep k None h base j has own = h
+    deep k (Some n) h base j has own = h base j has own
 
 -- 0 fits each width
 zero_fits : (bits : ℕ) → IsWidth bits → IsConstant (record { width = bits; value = 0 })
@@ -166,6 +192,7 @@ choice_none b first plan taps f leaf bits = record {
   width = tt;
   value = λ m from before c s run q e. inr (record { none = λ r among same on. (let f : ⊥ = omega (arith, among.1) in f); value_is = refl });
   made = tt;
+  levels = λ k most. tt;
 }
 
 -- the gate of such a choice

@@ -15,7 +15,7 @@ use Rattle.wiring.specs.Sizes.{IsWidth}
 use Rattle.wiring.specs.BufferBits.{array_bits}
 use Rattle.net_build.specs.Draft.{IsNet}
 use Rattle.net_build.specs.Indices.{read_indices, put_indices}
-use Rattle.net_build.proofs.Control.{made_wider}
+use Rattle.net_build.proofs.Depth.{within_wider}
 use Rattle.buffer_plan.specs.Plans.{Plan, IsPlan, ages_of, width_of, depth_of, last_of}
 use Rattle.buffer_plan.proofs.Aged.{are_ages, last_age, depth_most}
 use Rattle.line_buffer.specs.Places as L
@@ -73,15 +73,15 @@ none_long : (b : Netlist) (first end : ℕ) (h : Holder) → IsTrue (is_buffer b
 none_long b first end (OfNet n) is = is
 none_long b first end (OfArray x) is = and_both (nat_le first x && nat_lt x end) true is refl
 
-all_short : (b : Netlist) (first end : ℕ) (ages : List ℕ) (taps : List Net) → AreMadeOfBuffer b first end ages taps → AreMadeOfShort (λ words. false) b first end ages taps
-all_short b first end ages taps is k age tap ea some et = made_wider b (is_buffer b.enable first end) (is_short (λ words. false) b first end) (none_long b first end) (is k age tap ea some et)
+all_short : (b : Netlist) (most first end : ℕ) (ages : List ℕ) (taps : List Net) → AreMadeOfBuffer b most first end ages taps → AreMadeOfShort (λ words. false) b most first end ages taps
+all_short b most first end ages taps is k age tap ea some et = within_wider b (is_buffer b.enable first end) (is_short (λ words. false) b first end) (none_long b first end) (is k age tap ea some et)
 
 no_copies : (b : Netlist) (shapes : List Shape) → AreCopies (λ words. false) b [] shapes
 no_copies b [] = refl
 no_copies b (s ∷ shapes) = no_copies b shapes
 
 -- a form that has its shapes and places by widths and ages, and no long arrays
-module _ (shapes_by : (width : ℕ) → List ℕ → List Shape) (place_by : (first : ℕ) → List ℕ → (age t : ℕ) → Place) (property : Property) where
+module _ (shapes_by : (width : ℕ) → List ℕ → List Shape) (place_by : (first : ℕ) → List ℕ → (age t : ℕ) → Place) (levels : ℕ) (property : Property) where
   abbrev shapes : Shapes
   shapes plan g = shapes_by (width_of plan g) (ages_of plan g)
 
@@ -89,11 +89,11 @@ module _ (shapes_by : (width : ℕ) → List ℕ → List Shape) (place_by : (fi
   places plan g age t = place_by (first_array shapes plan g) (ages_of plan g) age t
 
   abbrev form : Form
-  form = record { shapes = shapes; places = places; long = λ words. false; property = property }
+  form = record { shapes = shapes; places = places; long = λ words. false; tap_levels = levels; property = property }
 
   module _ (b old : Netlist) (plan : Plan) (g width : ℕ) (ages : List ℕ) (value : Net) (nets taps : List Net) (aged : ages ≡ ages_of plan g) (wide : width ≡ width_of plan g) (same : taps ≡ nets) (arrays : old.arrays ≡ shapes_before shapes plan g) where
     pub form_buffered : array_bits (shapes_by (width_of plan g) (ages_of plan g)) ≡ width_of plan g * L.depth_of (ages_of plan g) → AddsBuffer b old (shapes_by width ages) [] → IsBuffer b [] (place_by (length old.arrays) ages) ages nets value →
-        AreMadeOfBuffer b (length old.arrays) (length old.arrays + length (shapes_by width ages)) ages nets → AreFilled b (λ x. true) [] (length old.arrays) (length old.arrays + length (shapes_by width ages)) value →
+        AreMadeOfBuffer b levels (length old.arrays) (length old.arrays + length (shapes_by width ages)) ages nets → AreFilled b (λ x. true) [] (length old.arrays) (length old.arrays + length (shapes_by width ages)) value →
         ((x : ℕ) → length old.arrays ≤ x → x < length b.arrays → property (depth b x) (read_indices b x) (put_indices b x)) → IsBuffered b old plan g form value taps
     form_buffered bits adds buffer made fills each = record {
       copies = [];
@@ -103,10 +103,10 @@ module _ (shapes_by : (width : ℕ) → List ℕ → List Shape) (place_by : (fi
       adds = subst (λ (w : ℕ). AddsBuffer b old (shapes_by w (ages_of plan g)) []) wide (subst (λ (list : List ℕ). AddsBuffer b old (shapes_by width list) []) aged adds);
       copied = no_copies b (shapes plan g);
       bits = bits ∙ ap (λ (d : ℕ). width_of plan g * d) (plan_depth plan g);
-      made = all_short b (length old.arrays) (length old.arrays + length (shapes plan g)) (ages_of plan g) taps
-          (subst (λ (ns : List Net). AreMadeOfBuffer b (length old.arrays) (length old.arrays + length (shapes plan g)) (ages_of plan g) ns) (sym same)
-          (subst (λ (w : ℕ). AreMadeOfBuffer b (length old.arrays) (length old.arrays + length (shapes_by w (ages_of plan g))) (ages_of plan g) nets) wide
-          (subst (λ (list : List ℕ). AreMadeOfBuffer b (length old.arrays) (length old.arrays + length (shapes_by width list)) list nets) aged made)));
+      made = all_short b levels (length old.arrays) (length old.arrays + length (shapes plan g)) (ages_of plan g) taps
+          (subst (λ (ns : List Net). AreMadeOfBuffer b levels (length old.arrays) (length old.arrays + length (shapes plan g)) (ages_of plan g) ns) (sym same)
+          (subst (λ (w : ℕ). AreMadeOfBuffer b levels (length old.arrays) (length old.arrays + length (shapes_by w (ages_of plan g))) (ages_of plan g) nets) wide
+          (subst (λ (list : List ℕ). AreMadeOfBuffer b levels (length old.arrays) (length old.arrays + length (shapes_by width list)) list nets) aged made)));
       fills = subst (λ (w : ℕ). AreFilled b (λ x. true) [] (length old.arrays) (length old.arrays + length (shapes_by w (ages_of plan g))) value) wide
           (subst (λ (list : List ℕ). AreFilled b (λ x. true) [] (length old.arrays) (length old.arrays + length (shapes_by width list)) value) aged fills);
       each = each;
@@ -130,7 +130,7 @@ module _ (least : ℕ) (proposed : List (List ℕ)) (b old : Netlist) (plan : Pl
         adds = is.adds;
         copied = is.copied;
         bits = chain_bits (width_of plan g) split finer.ascending ∙ ap (λ (d : ℕ). width_of plan g * d) (finer.last ∙ plan_depth plan g);
-        made = finer_made b is.copies ((block_form least proposed).places plan g) (ages_of plan g) split nets taps value finer among (block_form least proposed).long (length old.arrays) (length old.arrays + length ((block_form least proposed).shapes plan g)) is.made;
+        made = finer_made b is.copies ((block_form least proposed).places plan g) (ages_of plan g) split nets taps value finer among (block_form least proposed).long (block_form least proposed).tap_levels (length old.arrays) (length old.arrays + length ((block_form least proposed).shapes plan g)) is.made;
         fills = is.fills;
         each = is.once;
       }

@@ -1,8 +1,10 @@
 -- The net of an image's body, over the nets of its leaves.
+use Rattle.wiring.specs.declared.netlist.Holder.TheVariants.{OfNet}
+use Rattle.wiring.specs.declared.netlist.Holder.{Holder}
 use Rattle.std.proofs.Common.{◌≡◌, ℕ, zero, suc, ◌+◌, ◌-◌, ◌<◌, ◌≤◌, Bool, List, [], ◌∷◌, ◌++◌, length, map, take, drop, Some, true, false, refl, sym, ap, subst, ◌∙◌, arith, append_assoc, length-append, length-take-le}
 use Rattle.std.specs.Prelude.{pos, option_map, slice_get, slice_index, slice_index_or, if◌then◌else◌}
 use Rattle.std.specs.List.{All}
-use Rattle.std.proofs.lemmas.Option.{slice_get-map, slice_get-get_or, slice_get_within, get_or_from_slice_get}
+use Rattle.std.proofs.lemmas.Option.{same_Some, slice_get-map, slice_get-get_or, slice_get_within, get_or_from_slice_get}
 use Rattle.std.proofs.lemmas.List.{length-map, map-append, take-append-drop}
 use Rattle.std.proofs.lemmas.List.Elements.{All-append}
 use Rattle.wiring.proofs.Lists.{slice_get-append}
@@ -19,11 +21,12 @@ use Rattle.pointwise_ir.specs.declared.program.Input.{Input}
 use Rattle.pointwise_ir.specs.declared.program.Definition.{Definition}
 use Rattle.pointwise_ir.specs.Trees.{Tree, tree_of, constant, read, shifted, unary, binary, select, convert, scale}
 use Rattle.pointwise_ir.specs.Typing.{HasType}
-use Rattle.pointwise_ir.specs.Programs.{Program, IsProgram, IsBody, types_of, all_types}
+use Rattle.pointwise_ir.specs.Programs.{Program, IsProgram, IsBody, bodies_of, types_of, all_types}
 use Rattle.pointwise_ir.proofs.Defined.{types_are}
 use Rattle.pointwise_ir.proofs.Pictured.{mapped_entry, picture_of_body, values_in}
 use Rattle.edge_select.specs.declared.step.Step.{Step}
-use Rattle.datapath.specs.Expressions.{AreLeaves, HasLeaves, IsLowered, IsMadeOfLeaves, IsTyped, types_in, type_of}
+use Rattle.datapath.specs.Levels.{logic_levels}
+use Rattle.datapath.specs.Expressions.{AreLeavesMade, AreLeaves, HasLeaves, IsLowered, IsMadeOfLeaves, IsTyped, types_in, type_of}
 use Rattle.datapath.specs.declared.operand.Signal.TheVariants as signal
 use Rattle.datapath.proofs.Leaved.{typed_as}
 use Rattle.buffer_plan.specs.Plans.{Plan, IsPlan}
@@ -36,6 +39,9 @@ use Rattle.circuit.specs.Reads.{AreLeafNets, AddsLeaves}
 use Rattle.circuit.specs.Images.{IsImageNet, ports_of}
 use Rattle.circuit.proofs.Typing.{entry_or, plan_width, reads_typed, reads_before}
 use Rattle.circuit.proofs.Paths.{reads_long, bits_long}
+use Rattle.net_build.specs.Depth.{IsWithin}
+use Rattle.net_build.proofs.Depth.{HasDepth, within_deeper, within_made, made_within}
+use Rattle.circuit.specs.Depths.{ChoosesAmong, test_levels}
 use Rattle.circuit.proofs.Lasting.{leaf_nets_more}
 use Rattle.circuit.proofs.BodyNets.{entry_of, type_typed, types_of_reads, body_net_is}
 
@@ -82,6 +88,49 @@ reads_are_before f (select c a b) path (first, one, other) k d lt =
     All-append (λ (l : LeafRead). l.image < f) (reads_of c path ++ reads_of a path) (reads_of b path) (All-append (λ (l : LeafRead). l.image < f) (reads_of c path) (reads_of a path) (reads_are_before f c path first) (reads_are_before f a path one)) (reads_are_before f b path other) k d lt
 reads_are_before f (convert how a t) path before k d lt = reads_are_before f a path before k d lt
 reads_are_before f (scale op a m) path before k d lt = reads_are_before f a path before k d lt
+
+-- an image has one body
+one_body : (p : Program) (f : ℕ) (e t : Tree) → IsBody p f e → IsBody p f t → e ≡ t
+one_body p f e t (k, here, at) (j, there, on) =
+    let same : k ≡ j = omega (arith, here, there) in
+    same_Some e t (sym at ∙ ap (slice_get (bodies_of p)) same ∙ on)
+
+-- leaves that are made of a base are so with some number of operators
+reads_within : (m : Netlist) (base : Holder → Bool) (reads : List (Ty × Net)) → ((k : ℕ) (leaf : Ty × Net) → slice_get reads k ≡ Some leaf → HasDepth m base (OfNet leaf.1)) →
+    (j : ℕ) × ((k : ℕ) (leaf : Ty × Net) → slice_get reads k ≡ Some leaf → IsWithin m base j (OfNet leaf.1))
+reads_within m base [] each = (0, λ k leaf at. absurd (let e : ⊥ = cc in e))
+reads_within m base (x ∷ reads) each =
+    let (i, first) = each 0 x refl in
+    let (j, rest) = reads_within m base reads (λ k leaf at. each (suc k) leaf at) in
+    (i + j, both i j first rest)
+  where
+    both : (i j : ℕ) → IsWithin m base i (OfNet x.1) → ((k : ℕ) (leaf : Ty × Net) → slice_get reads k ≡ Some leaf → IsWithin m base j (OfNet leaf.1)) → (k : ℕ) (leaf : Ty × Net) → slice_get (x ∷ reads) k ≡ Some leaf → IsWithin m base (i + j) (OfNet leaf.1)
+    both i j first rest zero leaf at = within_deeper (omega arith) (subst (λ (l : Ty × Net). IsWithin m base i (OfNet l.1)) (same_Some x leaf at) first)
+    both i j first rest (suc k) leaf at = within_deeper (omega arith) (rest k leaf at)
+
+bits_within : (m : Netlist) (base : Holder → Bool) (bits : List Net) → ((k : ℕ) (n : Net) → slice_get bits k ≡ Some n → HasDepth m base (OfNet n)) →
+    (j : ℕ) × ((k : ℕ) (n : Net) → slice_get bits k ≡ Some n → IsWithin m base j (OfNet n))
+bits_within m base [] each = (0, λ k n at. absurd (let e : ⊥ = cc in e))
+bits_within m base (x ∷ bits) each =
+    let (i, first) = each 0 x refl in
+    let (j, rest) = bits_within m base bits (λ k n at. each (suc k) n at) in
+    (i + j, both i j first rest)
+  where
+    both : (i j : ℕ) → IsWithin m base i (OfNet x) → ((k : ℕ) (n : Net) → slice_get bits k ≡ Some n → IsWithin m base j (OfNet n)) → (k : ℕ) (n : Net) → slice_get (x ∷ bits) k ≡ Some n → IsWithin m base (i + j) (OfNet n)
+    both i j first rest zero n at = within_deeper (omega arith) (subst (λ (l : Net). IsWithin m base i (OfNet l)) (same_Some x n at) first)
+    both i j first rest (suc k) n at = within_deeper (omega arith) (rest k n at)
+
+leaves_within : (m : Netlist) (base : Holder → Bool) (reads : List (Ty × Net)) (bits : List Net) → ((k : ℕ) (leaf : Ty × Net) → slice_get reads k ≡ Some leaf → HasDepth m base (OfNet leaf.1)) → ((k : ℕ) (n : Net) → slice_get bits k ≡ Some n → HasDepth m base (OfNet n)) →
+    (j : ℕ) × AreLeavesMade m base j reads bits
+leaves_within m base reads bits of_read of_bit =
+    let (i, all) = reads_within m base reads of_read in
+    let (j, tests) = bits_within m base bits of_bit in (
+      i + j,
+      record {
+        read = λ k leaf at. within_deeper (omega arith) (all k leaf at);
+        bit = λ k n at. within_deeper (omega arith) (tests k n at);
+      },
+    )
 
 -- The body e of image f over the nets of its leaves in the netlist `mid`, of which the taps are in `old`.
 module _ (mid old : Netlist) (p : Program) (plan : Plan) (taps : List (List Net)) (f : ℕ) (e : Tree) (reads : List (Ty × Net)) (bits : List Net)
@@ -133,7 +182,7 @@ module _ (mid old : Netlist) (p : Program) (plan : Plan) (taps : List (List Net)
   }
 
   -- and the net to which it is lowered
-  pub image_net_is : (new : Netlist) (net : Net) → Includes new mid → Includes mid old → IsLowered new e reads bits net → IsMadeOfLeaves new (signal.Net net) reads bits → IsImageNet new old p plan taps f net
+  pub image_net_is : (new : Netlist) (net : Net) → Includes new mid → Includes mid old → IsLowered new e reads bits net → IsMadeOfLeaves new (logic_levels e) (signal.Net net) reads bits → IsImageNet new old p plan taps f net
   image_net_is new net late early lowered made =
       let now = leaf_nets_more new mid late old p plan taps f (reads_of e []) (bits_of e []) reads bits leaves in
       let (k, here, at) = body in
@@ -142,10 +191,21 @@ module _ (mid old : Netlist) (p : Program) (plan : Plan) (taps : List (List Net)
         width = lowered.operand.width.operand.width_is ∙ ap bits_of_type over.1 ∙ sym (plan_width p plan f reading.stencils reading.kept);
         input = λ lt. absurd (let n : ⊥ = omega (arith, lt, here) in n);
         body = λ le. body_net_is new old p plan taps f e reads bits net is_program is_plan reading.stencils reading.kept body (λ round long x y. picture_of_body p is_program round long f e body x y) (λ round is g t known. values_in p is_program round is g t known) now there lowered over.1;
-        made = λ le base has own. made.made new base (Includes-refl new) (record {
-          read = λ i n on. (let (leaf, at) = of_read i n on in (now.read i leaf n at on).made base has own);
-          bit = λ i n on. (let (steps, at) = of_bit i n on in (now.bit i steps n at on).made base (subst (λ (x : Bool). HasControl x base) (sym (late.enable ∙ early.enable)) has));
-        });
+        made = λ le base has own.
+            let control : HasControl new.enable base = subst (λ (x : Bool). HasControl x base) (sym (late.enable ∙ early.enable)) has in
+            let (j, all) = leaves_within new base reads bits
+            (λ i n on. (let (leaf, at) = of_read i n on in made_within ((now.read i leaf n at on).made base has own)))
+            (λ i n on. (let (steps, at) = of_bit i n on in (test_levels, (now.bit i steps n at on).within base control))) in
+            within_made (made.made new base j (Includes-refl new) all);
+        levels = λ f' n is_body among base j has own.
+            let control : HasControl new.enable base = subst (λ (x : Bool). HasControl x base) (sym (late.enable ∙ early.enable)) has in
+            let same : f' ≡ e = one_body p f f' e is_body body in
+            let most : ChoosesAmong plan f e n = subst (λ (t : Tree). ChoosesAmong plan f t n) same among in
+            subst (λ (t : Tree). IsWithin new base (logic_levels t + (n + test_levels) + j) (OfNet net)) (sym same)
+            (within_deeper (let g : logic_levels e + (n + test_levels + j) ≤ logic_levels e + (n + test_levels) + j = omega arith in g) (made.made new base (n + test_levels + j) (Includes-refl new) (record {
+              read = λ i m on. (let (leaf, at) = of_read i m on in (now.read i leaf m at on).levels n (most i leaf at) base j has own);
+              bit = λ i m on. (let (steps, at) = of_bit i m on in within_deeper (let g : test_levels ≤ n + test_levels + j = omega arith in g) ((now.bit i steps m at on).within base control));
+            })));
       }
 
 -- the leaves that are added to none, at the end of no steps
@@ -207,4 +267,5 @@ input_net_is b p plan taps f net reading ports lt is there = record {
   input = λ low. is;
   body = λ le. absurd (let e : ⊥ = omega (arith, lt, le) in e);
   made = λ le. absurd (let e : ⊥ = omega (arith, lt, le) in e);
+  levels = λ e n (k, here, at). absurd (let f : ⊥ = omega (arith, lt, here) in f);
 }

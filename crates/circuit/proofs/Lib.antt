@@ -6,6 +6,7 @@ pub mod Tapped
 pub mod Reading
 pub mod BodyPixels
 pub mod Bits
+pub mod Depths
 pub mod Lasting
 pub mod Choosing
 pub mod Sourced

@@ -8,9 +8,11 @@ use Rattle.wiring.specs.declared.netlist.Holder.{Holder}
 use Rattle.wiring.specs.declared.netlist.Holder.TheVariants.{OfNet}
 use Rattle.wiring.specs.Netlist.{Netlist}
 use Rattle.wiring.specs.Clock.{bit}
-use Rattle.net_build.specs.Control.{IsMadeOf, is_control}
+use Rattle.net_build.specs.Control.{is_control}
+use Rattle.net_build.specs.Depth.{IsWithin, IsOver}
+use Rattle.circuit.specs.Depths.{test_levels}
 use Rattle.net_build.specs.Logic.{AddsLogic, Computes}
-use Rattle.net_build.proofs.Control.{made_wider}
+use Rattle.net_build.proofs.Depth.{within_wider}
 use Rattle.edge_select.specs.declared.frame_tests.FrameTests.{FrameTests}
 use Rattle.edge_select.specs.Pixels.{AllPass, NonePass}
 use Rattle.edge_select.specs.FrameTests.{AddsTests, AreFrameTests, IsFrameTest}
@@ -45,33 +47,33 @@ pub rows_below : (plan : Plan) → IsPlan plan → (q : ℕ) → row (size_in pl
 rows_below plan is q = (place (size_in plan) q is.system.stencils.frame.some_columns is.system.stencils.frame.some_rows).row_below
 
 -- a test by the frame tests
-pub pixel_test : (b old : Netlist) (plan : Plan) (f delay : ℕ) (t : FrameTests) (P : Size → (x y : ℕ) → Type 0) (n : Net) → delay ≡ delay_of plan f → AreFrameTests old (size_in plan) t → IsFrameTest b (size_of t.size) delay (P (size_of t.size)) n → IsPixelTest b plan f (P (size_in plan)) n
-pixel_test b old plan f delay t P n e was is =
+pub pixel_test : (b old : Netlist) (plan : Plan) (f delay : ℕ) (t : FrameTests) (P : Size → (x y : ℕ) → Type 0) (n : Net) → delay ≡ delay_of plan f → AreFrameTests old (size_in plan) t → IsFrameTest b (size_of t.size) delay (P (size_of t.size)) n → IsWithin b (is_control b.enable) test_levels (OfNet n) → IsPixelTest b plan f (P (size_in plan)) n
+pixel_test b old plan f delay t P n e was is within =
     let own : IsFrameTest b (size_in plan) delay (P (size_in plan)) n = subst (λ (z : Size). IsFrameTest b z delay (P z) n) was.size_is is in
     let here : IsFrameTest b (size_in plan) (delay_of plan f) (P (size_in plan)) n = subst (λ (d : ℕ). IsFrameTest b (size_in plan) d (P (size_in plan)) n) e own in
     record {
       there = here.there;
       width = here.width;
       value = λ m from before c s run q sum. here.value m from before c s run.clock run.since q sum;
-      made = λ base has. made_wider b (is_control b.enable) base has here.made;
+      within = λ base has. within_wider b (is_control b.enable) base has within;
     }
 
 -- a test that all pixels pass, and one that none does
-none_made : (b : Netlist) (base : Holder → Bool) (n : Net) → Contains [] n → IsMadeOf b base (OfNet n)
-none_made b base n has = absurd (let lt = has.1 in let f : ⊥ = omega (arith, lt) in f)
+none_within : (b : Netlist) (base : Holder → Bool) (j : ℕ) (n : Net) → Contains [] n → IsWithin b base j (OfNet n)
+none_within b base j n has = absurd (let lt = has.1 in let f : ⊥ = omega (arith, lt) in f)
 
-pub always_test : (new old : Netlist) (plan : Plan) (f : ℕ) (passes : (x y : ℕ) → Type 0) (n : Net) → IsPlan plan → Computes new old [] 1 (λ s. bit true) n → AllPass plan.system.stencils.width plan.system.stencils.height passes → IsPixelTest new plan f passes n
-always_test new old plan f passes n is computes all = record {
+pub always_test : (new old : Netlist) (plan : Plan) (f : ℕ) (passes : (x y : ℕ) → Type 0) (n : Net) → IsPlan plan → Computes new old [] 1 (λ s. bit true) n → IsOver new old 0 [] n → AllPass plan.system.stencils.width plan.system.stencils.height passes → IsPixelTest new plan f passes n
+always_test new old plan f passes n is computes over all = record {
   there = computes.net;
   width = computes.width;
   value = λ m from before c s run q e. inl (all (column (size_in plan) q) (row (size_in plan) q) (columns_below plan is q) (rows_below plan is q), computes.value m s run.clock.whole.includes run.clock.at.snapshot.settled);
-  made = λ base has. computes.made_of base (none_made old base);
+  within = λ base has. over base test_levels (none_within old base test_levels);
 }
 
-pub never_test : (new old : Netlist) (plan : Plan) (f : ℕ) (passes : (x y : ℕ) → Type 0) (n : Net) → IsPlan plan → Computes new old [] 1 (λ s. bit false) n → NonePass plan.system.stencils.width plan.system.stencils.height passes → IsPixelTest new plan f passes n
-never_test new old plan f passes n is computes none = record {
+pub never_test : (new old : Netlist) (plan : Plan) (f : ℕ) (passes : (x y : ℕ) → Type 0) (n : Net) → IsPlan plan → Computes new old [] 1 (λ s. bit false) n → IsOver new old 0 [] n → NonePass plan.system.stencils.width plan.system.stencils.height passes → IsPixelTest new plan f passes n
+never_test new old plan f passes n is computes over none = record {
   there = computes.net;
   width = computes.width;
   value = λ m from before c s run q e. inr (none (column (size_in plan) q) (row (size_in plan) q) (columns_below plan is q) (rows_below plan is q), computes.value m s run.clock.whole.includes run.clock.at.snapshot.settled);
-  made = λ base has. computes.made_of base (none_made old base);
+  within = λ base has. over base test_levels (none_within old base test_levels);
 }

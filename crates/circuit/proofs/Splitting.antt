@@ -201,5 +201,5 @@ module _ (b : Netlist) (copies : List ℕ) (place : (age t : ℕ) → Place) (ag
     waits = λ m from before c s clock ready held next is_next age t some deep. is.waits m from before c s clock ready held next is_next age t some (let last = finer.last in let l : age ≤ L.depth_of split = omega (arith, deep, last) in l);
   }
 
-  pub finer_made : (long : (words : ℕ) → Bool) (first end : ℕ) → AreMadeOfShort long b first end split nets → AreMadeOfShort long b first end ages taps
-  finer_made long first end is k age tap ea some et = (let (j, there, tapped) = (among.each k age tap ea et).later some in is j age tap there some tapped)
+  pub finer_made : (long : (words : ℕ) → Bool) (most first end : ℕ) → AreMadeOfShort long b most first end split nets → AreMadeOfShort long b most first end ages taps
+  finer_made long most first end is k age tap ea some et = (let (j, there, tapped) = (among.each k age tap ea et).later some in is j age tap there some tapped)

@@ -1,5 +1,7 @@
 -- The taps of live reads, as nets of the right width.
-use Rattle.std.proofs.Common.{◌≡◌, ℕ, ◌<◌, List, length, Option, Some, None, sym, subst, ◌∙◌, arith}
+use Rattle.circuit.specs.Depths.{test_levels}
+use Rattle.net_build.proofs.Depth.{within_deeper}
+use Rattle.std.proofs.Common.{◌≡◌, ℕ, ◌<◌, List, length, Option, Some, None, sym, subst, ◌∙◌, arith, ◌+◌, ◌≤◌}
 use Rattle.std.specs.Prelude.{Contains, IfSome, slice_index, slice_index_or, map}
 use Rattle.std.proofs.lemmas.List.{get_or-map}
 use Rattle.dk_base.specs.declared.stencils.Image.{Image}
@@ -69,7 +71,7 @@ chosen_width_more c b (Some n) bits f there h = width_more c b f n there.declare
 pub chosen_is_read : (new mid first : Netlist) (plan : Plan) (taps : List (List Net)) (f : ℕ) (leaf : LeafRead) (bits : ℕ) (o : Option Net) (n : Net) → Includes new mid → IsChoice mid first plan taps f (reads_in plan f) leaf bits o → IsNetOf new mid bits o n → IsReadNet new first plan taps f leaf bits n
 chosen_is_read new mid first plan taps f leaf bits (Some m) n grows is net =
     let now : IsChoice new first plan taps f (reads_in plan f) leaf bits (Some m) = choice_more new mid grows first plan taps f (reads_in plan f) leaf bits (Some m) is in
-    subst (IsReadNet new first plan taps f leaf bits) net.there (record { there = now.there; width = now.width; value = now.value; made = now.made })
+    subst (IsReadNet new first plan taps f leaf bits) net.there (record { there = now.there; width = now.width; value = now.value; made = now.made; levels = now.levels })
 chosen_is_read new mid first plan taps f leaf bits None n grows is net =
     let now : IsChoice new first plan taps f (reads_in plan f) leaf bits None = choice_more new mid grows first plan taps f (reads_in plan f) leaf bits None is in
     let zero = net.zero in
@@ -78,6 +80,7 @@ chosen_is_read new mid first plan taps f leaf bits None n grows is net =
       width = zero.width;
       value = λ m from before c s run q e. subst (λ (v : ℕ). IsChosen (size_in plan) plan taps (reads_in plan f) leaf (column (size_in plan) q) (row (size_in plan) q) s v) (sym (zero.value m s run.clock.whole.includes run.clock.at.snapshot.settled)) (now.value m from before c s run q e);
       made = λ base has own. zero.made_of base (λ x (k, lt, e). absurd (let f : ⊥ = omega (arith, lt) in f));
+      levels = λ k most base j has own. within_deeper (let g : 0 + j ≤ k + test_levels + j = omega arith in g) (net.levels base j (λ x (i, lt, e). absurd (let f : ⊥ = omega (arith, lt) in f)));
     }
 
 -- the type of an image is a width

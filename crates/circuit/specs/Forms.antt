@@ -10,6 +10,7 @@ use Rattle.wiring.specs.BufferBits.{array_bits}
 use Rattle.net_build.specs.Indices.{read_indices, put_indices}
 use Rattle.buffer_plan.specs.Plans.{Plan, ages_of, width_of, depth_of}
 use Rattle.line_buffer.specs.Places.{Place, chain_shapes, chain_place, ring_shapes, ring_place}
+use Rattle.line_buffer.specs.Depths.{line_operators, ring_operators}
 use Rattle.line_buffer.specs.Fills.{AreFilled}
 use Rattle.line_buffer.specs.Indices.{IsReadOnce, IsReadAndPut, is_long, is_direct}
 use Rattle.line_buffer.specs.Buffers.{IsBuffer, AddsBuffer}
@@ -27,11 +28,12 @@ Places = Plan → (g age t : ℕ) → Place
 abbrev pub Property : Type 1
 Property = (words : ℕ) → (reads puts : List (Atom Net)) → Type 0
 
--- A form of buffers: the arrays, where each age is, which arrays are long, by their number of words, and what each array keeps. A long array has a register that copies its word, and nothing else reads it.
+-- A form of buffers: the arrays, where each age is, which arrays are long, by their number of words, the most operators on a path to a tap, which are those of its index, and what each array keeps. A long array has a register that copies its word, and nothing else reads it.
 pub record Form : Type 1 where
   pub shapes : Shapes
   pub places : Places
   pub long : (words : ℕ) → Bool
+  pub tap_levels : ℕ
   pub property : Property
 
 -- the arrays of these images, one after another
@@ -57,7 +59,7 @@ pub record IsBuffered (b old : Netlist) (plan : Plan) (g : ℕ) (form : Form) (v
   pub adds : AddsBuffer b old (form.shapes plan g) copies
   pub copied : AreCopies form.long b copies (form.shapes plan g)
   pub bits : array_bits (form.shapes plan g) ≡ width_of plan g * depth_of plan g
-  pub made : AreMadeOfShort form.long b (length old.arrays) (length old.arrays + length (form.shapes plan g)) (ages_of plan g) taps
+  pub made : AreMadeOfShort form.long b form.tap_levels (length old.arrays) (length old.arrays + length (form.shapes plan g)) (ages_of plan g) taps
   pub fills : AreFilled b (is_direct form.long b) copies (length old.arrays) (length old.arrays + length (form.shapes plan g)) value
   pub each : (x : ℕ) → length old.arrays ≤ x → x < length b.arrays → form.property (depth b x) (read_indices b x) (put_indices b x)
 
@@ -74,7 +76,7 @@ chain_places plan g age t = chain_place (first_array chain_shapes_of plan g) (ag
 
 -- each array is read once and put once, at one index
 abbrev pub chain_form : Form
-chain_form = record { shapes = chain_shapes_of; places = chain_places; long = λ words. false; property = λ words. IsReadOnce }
+chain_form = record { shapes = chain_shapes_of; places = chain_places; long = λ words. false; tap_levels = line_operators; property = λ words. IsReadOnce }
 
 -- a chain for each image over the ages of its split, which may be more than are read
 abbrev pub block_shapes_of : (proposed : List (List ℕ)) → Shapes
@@ -85,7 +87,7 @@ block_places proposed plan g age t = chain_place (first_array (block_shapes_of p
 
 -- The arrays of such chains. Those of at least this number of words are long: each is read once, one clock ahead, and put once.
 abbrev pub block_form : (least : ℕ) → (proposed : List (List ℕ)) → Form
-block_form least proposed = record { shapes = block_shapes_of proposed; places = block_places proposed; long = is_long (Some least); property = λ words. IsReadAndPut (not (is_long (Some least) words)) }
+block_form least proposed = record { shapes = block_shapes_of proposed; places = block_places proposed; long = is_long (Some least); tap_levels = line_operators; property = λ words. IsReadAndPut (not (is_long (Some least) words)) }
 
 -- a ring for each image of depth above 0
 abbrev pub ring_shapes_of : Shapes
@@ -95,4 +97,4 @@ abbrev pub ring_places : Places
 ring_places plan g age t = ring_place (first_array ring_shapes_of plan g) (ages_of plan g) age t
 
 abbrev pub ring_form : Form
-ring_form = record { shapes = ring_shapes_of; places = ring_places; long = λ words. false; property = λ words reads puts. ⊤ }
+ring_form = record { shapes = ring_shapes_of; places = ring_places; long = λ words. false; tap_levels = ring_operators; property = λ words reads puts. ⊤ }

@@ -1,5 +1,5 @@
 -- What is built for the images of a plan, one after another.
-use Rattle.std.specs.Prelude.{◌≡◌, ℕ, ◌*◌, ◌<◌, ◌≤◌, nat_le, nat_lt, ◌&&◌, Bool, true, false, not, List, [], length, map, take, slice_get, slice_index_or, unwrap_or, Some}
+use Rattle.std.specs.Prelude.{◌≡◌, ℕ, ◌+◌, ◌*◌, ◌<◌, ◌≤◌, nat_le, nat_lt, ◌&&◌, Bool, true, false, not, List, [], length, map, take, slice_get, slice_index_or, unwrap_or, Some}
 use Rattle.std.specs.List.{list_any}
 use Rattle.std.specs.Option.{option_map}
 use Rattle.dk_base.specs.declared.stencils.Image.{Image}
@@ -19,8 +19,11 @@ use Rattle.net_build.specs.Includes.{Includes}
 use Rattle.net_build.specs.Draft.{IsNet, UpdatedBut, empty_draft}
 use Rattle.net_build.specs.Runs.{NeverStops, StillBut}
 use Rattle.net_build.specs.Control.{IsMadeOf, IsControlled, is_control}
+use Rattle.net_build.specs.Depth.{IsWithin}
 use Rattle.net_build.specs.Indices.{read_indices, put_indices}
-use Rattle.pointwise_ir.specs.Programs.{Program}
+use Rattle.pointwise_ir.specs.Programs.{Program, IsBody}
+use Rattle.pointwise_ir.specs.Trees.{Tree}
+use Rattle.datapath.specs.Levels.{logic_levels}
 use Rattle.buffer_plan.specs.Plans.{Plan, delay_of, ages_of, width_of, depth_of}
 use Rattle.line_buffer.specs.Streams.{IsPixel}
 use Rattle.line_buffer.specs.Fills.{AreFilled}
@@ -31,6 +34,7 @@ use Rattle.circuit.specs.Rounds.{Rounds, AreRounds, type_at, pixel_count, pixel_
 use Rattle.edge_select.specs.declared.frame_tests.FrameTests.{FrameTests}
 use Rattle.edge_select.specs.FrameTests.{AreFrameTests, IsApart}
 use Rattle.circuit.specs.Taps.{Keeps, size_in, taps_at, TapsAreRight}
+use Rattle.circuit.specs.Depths.{ChoosesAmong, IsOverTaps, test_levels}
 use Rattle.circuit.specs.Reads.{reads_in, IsMadeOfTaps}
 use Rattle.circuit.specs.Forms.{Shapes, Form, shapes_of, first_array, end_array}
 
@@ -47,6 +51,7 @@ pub record IsImageNet (b old : Netlist) (p : Program) (plan : Plan) (taps : List
   pub input : f < length p.inputs → net ≡ din_net b f
   pub body : length p.inputs ≤ f → IsBodyNet b p plan taps f net
   pub made : length p.inputs ≤ f → IsMadeOfTaps b old plan taps (reads_in plan f) net
+  pub levels : (e : Tree) (n : ℕ) → IsBody p f e → ChoosesAmong plan f e n → IsOverTaps b old plan taps (reads_in plan f) (logic_levels e + (n + test_levels)) net
 
 -- a number of an array of an image
 abbrev pub is_array_of : Shapes → Plan → (g x : ℕ) → Bool
@@ -78,6 +83,10 @@ direct_source form plan (OfNet (Wire k)) = false
 direct_source form plan (OfNet (Reg k)) = true
 direct_source form plan (OfArray x) = reads_directly form plan x
 
+-- The most operators on a path to the net of an image with this body, whose reads choose among at most n taps, at an age of at least 1: those of the body, a choice for each tap, a frame test, and the index of a tap.
+abbrev pub image_levels : Form → Tree → (n : ℕ) → ℕ
+image_levels form e n = logic_levels e + (n + test_levels) + form.tap_levels
+
 -- What has been built for image g, as the netlist b has it: its net, and its buffer by its taps. No path of assigns leads from a long array to them, except through a register.
 pub record IsLine (b : Netlist) (p : Program) (plan : Plan) (form : Form) (copies : List ℕ) (taps : List (List Net)) (g : ℕ) (net : Net) : Type 0 where
   pub there : IsNet b net
@@ -85,10 +94,11 @@ pub record IsLine (b : Netlist) (p : Program) (plan : Plan) (form : Form) (copie
   pub input : g < length p.inputs → net ≡ din_net b g
   pub body : length p.inputs ≤ g → IsBodyNet b p plan taps g net
   pub apart : 1 ≤ plan.system.age → length p.inputs ≤ g → IsMadeOf b (source_of form plan g b.enable) (OfNet net)
+  pub levels : 1 ≤ plan.system.age → (e : Tree) (n : ℕ) → IsBody p g e → ChoosesAmong plan g e n → IsWithin b (source_of form plan g b.enable) (image_levels form e n) (OfNet net)
   pub direct : IsMadeOf b (direct_source form plan) (OfNet net)
   pub buffer : IsBuffer b copies (form.places plan g) (ages_of plan g) (taps_at plan taps g) net
   pub bits : array_bits (form.shapes plan g) ≡ width_of plan g * depth_of plan g
-  pub made : (k age : ℕ) (tap : Net) → slice_get (ages_of plan g) k ≡ Some age → 0 < age → slice_get (taps_at plan taps g) k ≡ Some tap → IsMadeOf b (tap_source_of form plan g b.enable) (OfNet tap)
+  pub made : (k age : ℕ) (tap : Net) → slice_get (ages_of plan g) k ≡ Some age → 0 < age → slice_get (taps_at plan taps g) k ≡ Some tap → IsWithin b (tap_source_of form plan g b.enable) form.tap_levels (OfNet tap)
   pub fills : AreFilled b (reads_directly form plan) copies (first_array form.shapes plan g) (end_array form.shapes plan g) net
   pub each : (x : ℕ) → first_array form.shapes plan g ≤ x → x < end_array form.shapes plan g → form.property (words_in form.shapes plan x) (read_indices b x) (put_indices b x)
 

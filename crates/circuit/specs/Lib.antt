@@ -3,6 +3,7 @@ pub mod Rounds
 pub mod Leaves
 pub mod Known
 pub mod Taps
+pub mod Depths
 pub mod Reads
 pub mod Splits
 pub mod Forms

@@ -15,14 +15,17 @@ use Rattle.wiring.specs.BufferBits.{update_reads}
 use Rattle.wiring.specs.Netlist.{Netlist, net_width, din_net, dout_net, update_target}
 use Rattle.net_build.specs.Draft.{IsNet}
 use Rattle.net_build.specs.Control.{IsMadeOf, is_control}
-use Rattle.pointwise_ir.specs.Programs.{Program}
+use Rattle.net_build.specs.Depth.{IsWithin}
+use Rattle.pointwise_ir.specs.Programs.{Program, IsBody}
+use Rattle.pointwise_ir.specs.Trees.{Tree}
 use Rattle.buffer_plan.specs.Plans.{Plan, depth_of}
 use Rattle.line_buffer.specs.Fills.{HasRight, IsWordOf, Takes}
 use Rattle.circuit.specs.Rounds.{type_at}
 use Rattle.circuit.specs.Taps.{Keeps}
+use Rattle.circuit.specs.Depths.{ChoosesAmong}
 use Rattle.circuit.specs.Reads.{reads_in}
 use Rattle.circuit.specs.Forms.{Form, first_array, end_array}
-use Rattle.circuit.specs.Images.{is_array_of, reads_directly, source_of}
+use Rattle.circuit.specs.Images.{is_array_of, reads_directly, source_of, image_levels}
 use Rattle.circuit.specs.Behaviour.{net_of}
 
 -- the one assign of an output copies the net
@@ -59,9 +62,10 @@ abbrev pub kept_source_of : Form → Plan → (f : ℕ) → (enable : Bool) → 
 kept_source_of form plan f enable (OfNet n) = is_control enable (OfNet n)
 kept_source_of form plan f enable (OfArray x) = reads_directly form plan x && (is_array_of form.shapes plan f x || list_any (λ (r : LiveRead). is_array_of form.shapes plan r.g x) (reads_in plan f))
 
--- What image f is made of. Its net and each dout that shows it are made of rst, en, registers and the arrays of the images of which f has a live read. What the puts of its arrays read is made of these and of its own arrays. Of all these arrays only those that are not long are read.
+-- What image f is made of. Its net and each dout that shows it are made of rst, en, registers and the arrays of the images of which f has a live read; its logic depth is at most that of its body and of the choice among the taps of one read. What the puts of its arrays read is made of these and of its own arrays. Of all these arrays only those that are not long are read.
 pub record IsImageApart (m : Netlist) (p : Program) (plan : Plan) (form : Form) (nets : List Net) (f : ℕ) : Type 0 where
   pub net : IsMadeOf m (source_of form plan f m.enable) (OfNet (net_of plan nets f))
+  pub levels : (e : Tree) (n : ℕ) → IsBody p f e → ChoosesAmong plan f e n → IsWithin m (source_of form plan f m.enable) (image_levels form e n) (OfNet (net_of plan nets f))
   pub dout : (k : ℕ) → slice_get p.outputs k ≡ Some f → IsMadeOf m (source_of form plan f m.enable) (OfNet (dout_net k))
   pub put : (x : ℕ) (u : Update) → first_array form.shapes plan f ≤ x → x < end_array form.shapes plan f → Contains m.updates u → update_target u ≡ OfArray x → All (IsMadeOf m (kept_source_of form plan f m.enable)) (update_reads u)
 

@@ -1,5 +1,5 @@
 -- The nets of an expression's leaves: of its reads, and of the tests of its shifted parts.
-use Rattle.std.specs.Prelude.{◌≡◌, ◌⊎◌, ℕ, ◌==◌, if◌then◌else◌, Bool, List, ◌∷◌, length, slice_get, Option, Some, None, IfSome, IfNone, [], ◌++◌, Contains}
+use Rattle.std.specs.Prelude.{◌≡◌, ◌⊎◌, ℕ, ◌+◌, ◌==◌, if◌then◌else◌, Bool, List, ◌∷◌, length, slice_get, Option, Some, None, IfSome, IfNone, [], ◌++◌, Contains}
 use Rattle.dk_base.specs.declared.stencils.LiveRead.{LiveRead}
 use Rattle.dk_base.specs.declared.ty.Ty.{Ty}
 use Rattle.dk_base.specs.Types.{width_of as bits_of_type}
@@ -15,6 +15,7 @@ use Rattle.net_build.specs.Includes.{Includes}
 use Rattle.circuit.specs.declared.known.BodyLeaves.{BodyLeaves}
 use Rattle.net_build.specs.Draft.{IsNet}
 use Rattle.net_build.specs.Control.{IsMadeOf}
+use Rattle.net_build.specs.Depth.{IsWithin, IsOver}
 use Rattle.net_build.specs.Logic.{Computes}
 use Rattle.pointwise_ir.specs.Programs.{Program}
 use Rattle.edge_select.specs.declared.step.Step.{Step}
@@ -26,6 +27,7 @@ use Rattle.circuit.specs.Rounds.{type_at}
 use Rattle.circuit.specs.Leaves.{LeafRead}
 use Rattle.circuit.specs.Known.{ArePlaced}
 use Rattle.circuit.specs.Taps.{size_in, IsTapOf, HasControl}
+use Rattle.circuit.specs.Depths.{MeansAtMost, IsOverTaps, test_levels}
 
 -- the live reads by image f
 abbrev pub reads_in : Plan → (f : ℕ) → List LiveRead
@@ -59,26 +61,28 @@ abbrev pub worth_of : Snapshot → Option Net → ℕ
 worth_of s None = 0
 worth_of s (Some n) = net_value s n
 
--- of these reads by image f, the net of the one that is meant
+-- Of these reads by image f, the net of the one that is meant. On a path from a tap it has one choice for each read that may be meant, and a test before them.
 pub record IsChoice (b first : Netlist) (plan : Plan) (taps : List (List Net)) (f : ℕ) (reads : List LiveRead) (leaf : LeafRead) (bits : ℕ) (choice : Option Net) : Type 0 where
   pub there : IfSome choice (IsNet b)
   pub width : IfSome choice (λ n. net_width b n ≡ bits)
   pub value : AtEachPixel b (size_in plan) (delay_of plan f) (λ x y s. IsChosen (size_in plan) plan taps reads leaf x y s (worth_of s choice))
   pub made : IfSome choice (IsMadeOfTaps b first plan taps reads)
+  pub levels : (n : ℕ) → MeansAtMost (size_in plan) leaf reads n → IfSome choice (IsOverTaps b first plan taps reads (n + test_levels))
 
--- The net of a read by image f: of all live reads by f of the image that is read, it is the tap of one by whose offset the steps lead, and 0 where they lead by none.
+-- The net of a read by image f: of all live reads by f of the image that is read, it is the tap of one by whose offset the steps lead, and 0 where they lead by none. On a path it has one choice for each live read that may be meant, and a test before them.
 pub record IsReadNet (b first : Netlist) (plan : Plan) (taps : List (List Net)) (f : ℕ) (leaf : LeafRead) (bits : ℕ) (net : Net) : Type 0 where
   pub there : IsNet b net
   pub width : net_width b net ≡ bits
   pub value : AtEachPixel b (size_in plan) (delay_of plan f) (λ x y s. IsChosen (size_in plan) plan taps (reads_in plan f) leaf x y s (net_value s net))
   pub made : IsMadeOfTaps b first plan taps (reads_in plan f) net
+  pub levels : (n : ℕ) → MeansAtMost (size_in plan) leaf (reads_in plan f) n → IsOverTaps b first plan taps (reads_in plan f) (n + test_levels) net
 
--- A bit of image f that is 1 in the pixels that pass, and made only of rst, en and registers.
+-- A bit of image f that is 1 in the pixels that pass, and made only of rst, en and registers, with at most `test_levels` operators.
 pub record IsPixelTest (b : Netlist) (plan : Plan) (f : ℕ) (passes : (x y : ℕ) → Type 0) (net : Net) : Type 0 where
   pub there : IsNet b net
   pub width : net_width b net ≡ 1
   pub value : AtEachPixel b (size_in plan) (delay_of plan f) (λ x y s. IsBitOf (passes x y) (net_value s net))
-  pub made : (base : Holder → Bool) → HasControl b.enable base → IsMadeOf b base (OfNet net)
+  pub within : (base : Holder → Bool) → HasControl b.enable base → IsWithin b base test_levels (OfNet net)
 
 -- Nets for these leaves of image f: each read has its image's type, and each bit says whether the steps lead somewhere.
 pub record AreLeafNets (b first : Netlist) (p : Program) (plan : Plan) (taps : List (List Net)) (f : ℕ) (leaves : List LeafRead) (parts : List (List Step)) (reads : List (Ty × Net)) (bits : List Net) : Type 0 where
@@ -115,6 +119,7 @@ chosen_by test tap choice s = if net_value s test == 1 then net_value s tap else
 pub record IsNetOf (b old : Netlist) (bits : ℕ) (choice : Option Net) (net : Net) : Type 0 where
   pub there : IfSome choice (λ n. n ≡ net)
   pub zero : IfNone choice (Computes b old [] bits (λ s. 0) net)
+  pub levels : IfNone choice (IsOver b old 0 [] net)
 
 -- the leaves have these nets, and what is known of the reads is so
 pub record HaveNets (b first : Netlist) (p : Program) (plan : Plan) (taps : List (List Net)) (f : ℕ) (leaves : List LeafRead) (parts : List (List Step)) (all : BodyLeaves) : Type 0 where

@@ -9,6 +9,7 @@ ghost use Rattle.wiring.specs.Netlist.{Netlist, net_width};
 ghost use Rattle.wiring.specs.Sizes.{IsWidth};
 ghost use Rattle.net_build.specs.Includes.{Includes};
 ghost use Rattle.net_build.specs.Draft.{IsNet};
+ghost use Rattle.net_build.specs.Depth.{IsOver};
 ghost use Rattle.net_build.specs.Logic.{AddsLogic, Computes};
 ghost use Rattle.edge_select.specs.FrameTests.{AddsTests, AreFrameTests};
 ghost use Rattle.edge_select.specs.Steps.{LeadBy};
@@ -53,6 +54,7 @@ fn chosen_by(
     requires before_width { IfSome before (λ n. net_width b.old n ≡ bits) }
     ensures logic { AddsLogic b.new b.old }
     ensures net { IfOk result (Computes b.new b.old (test ∷ (tap ∷ choice_nets before)) bits (chosen_by test tap before)) }
+    ensures levels { IfOk result (IsOver b.new b.old 1 (test ∷ (tap ∷ choice_nets before))) }
 {
     let rest = atom_of(bits, before);
     let net = gate(b, Right::Choose(Atom::Net(test), Atom::Net(tap), rest))?;

@@ -1,5 +1,6 @@
 -- The parts of an expression: where their leaves are, that they are typed, and of what their nets are made.
-use Rattle.std.proofs.Common.{ℕ, ℤ, ◌≡◌, ◌+◌, ◌<◌, ◌≤◌, [], ◌∷◌, ap, subst, sym, ◌∙◌, List, length, arith}
+use Rattle.std.proofs.Math.Nat.{le-max_left, le-max_right}
+use Rattle.std.proofs.Common.{ℕ, ℤ, max, ◌≡◌, ◌+◌, ◌<◌, ◌≤◌, [], ◌∷◌, ap, subst, sym, ◌∙◌, List, length, arith}
 use Rattle.std.specs.Prelude.{slice_get, Some, IsTrue}
 use Rattle.dk_base.specs.declared.ty.Ty.{Ty}
 use Rattle.dk_base.specs.declared.ty.Ty.TheVariants.{Unsigned}
@@ -19,6 +20,7 @@ use Rattle.datapath.specs.Nets.{IsPartOf, IsMadeOver}
 use Rattle.datapath.specs.Walks.{IsPartAt}
 use Rattle.datapath.specs.Expressions.{IsMadeOfLeaves, edge_bits, TakesOperand, TakesNumber, unary_result, scaling_result, IsTyped, type_of, types_in, reads_in, bits_in}
 use Rattle.datapath.proofs.Growth.{part_on}
+use Rattle.datapath.proofs.Over.{made_deeper}
 
 module _ (whole : Tree) (reads : List (Ty × Net)) (bits : List Net) (n k : ℕ) (part : IsPartAt whole reads bits n k) where
   at : (e : Tree) → whole ≡ e → IsPartAt e reads bits n k
@@ -120,30 +122,44 @@ module _ (whole : Tree) (reads : List (Ty × Net)) (bits : List Net) (n k : ℕ)
 
 -- of what the nets of forms are made
 module _ {reads : List (Ty × Net)} {bits : List Net} where
-  pub leaves_constant : {b : Netlist} {r : Signal} → IsMadeOver b r [] → IsMadeOfLeaves b r reads bits
-  leaves_constant h = record { made = λ m base more is. h.made m base more tt }
+  pub leaves_constant : {b : Netlist} {r : Signal} → IsMadeOver b 0 r [] → IsMadeOfLeaves b 0 r reads bits
+  leaves_constant h = record { made = λ m base j more is. h.made m base j more tt }
 
-  pub leaves_read : (b : Netlist) (k : ℕ) (leaf : Ty × Net) → slice_get reads k ≡ Some leaf → IsMadeOfLeaves b (signal.Net leaf.1) reads bits
-  leaves_read b k leaf e = record { made = λ m base more is. is.read k leaf e }
+  pub leaves_read : (b : Netlist) (k : ℕ) (leaf : Ty × Net) → slice_get reads k ≡ Some leaf → IsMadeOfLeaves b 0 (signal.Net leaf.1) reads bits
+  leaves_read b k leaf e = record { made = λ m base j more is. made_deeper m base (signal.Net leaf.1) (omega arith) (is.read k leaf e) }
 
-  pub leaves_gate : {b c : Netlist} {r p : Signal} (k : ℕ) (n : Net) → slice_get bits k ≡ Some n → IsPartOf b c → IsMadeOver c r (signal.Net n ∷ (p ∷ [])) → IsMadeOfLeaves b p reads bits → IsMadeOfLeaves c r reads bits
-  leaves_gate {b} {c} k n e bc h f = record { made = λ m base more is. h.made m base more (is.bit k n e, (f.made m base (part_on b c m bc more) is, tt)) }
-
-  pub leaves_one : {b c : Netlist} {r p : Signal} → IsPartOf b c → IsMadeOver c r (p ∷ []) → IsMadeOfLeaves b p reads bits → IsMadeOfLeaves c r reads bits
-  leaves_one {b} {c} bc h f = record { made = λ m base more is. h.made m base more (f.made m base (part_on b c m bc more) is, tt) }
-
-  pub leaves_two : {b c d : Netlist} {r p q : Signal} → IsPartOf b c → IsPartOf c d → IsMadeOver d r (p ∷ (q ∷ [])) → IsMadeOfLeaves b p reads bits → IsMadeOfLeaves c q reads bits → IsMadeOfLeaves d r reads bits
-  leaves_two {b} {c} {d} bc cd h f g = record {
-    made = λ m base more is.
-        let on = part_on c d m cd more in
-        h.made m base more (f.made m base (part_on b c m bc on) is, (g.made m base on is, tt));
+  pub leaves_gate : {b c : Netlist} {r p : Signal} (i l k : ℕ) (n : Net) → i ≡ 1 → slice_get bits k ≡ Some n → IsPartOf b c → IsMadeOver c 1 r (signal.Net n ∷ (p ∷ [])) → IsMadeOfLeaves b l p reads bits → IsMadeOfLeaves c (i + l) r reads bits
+  leaves_gate {b} {c} {r} i l k n one e bc h f = record {
+    made = λ m base j more is. made_deeper m base r (let g : 1 + (l + j) ≤ i + l + j = omega (arith, one) in g) (h.made m base (l + j) more (made_deeper m base (signal.Net n) (omega arith) (is.bit k n e), (f.made m base j (part_on b c m bc more) is, tt)));
   }
 
-  pub leaves_three : {a b c d : Netlist} {r o p q : Signal} → IsPartOf a b → IsPartOf b c → IsPartOf c d → IsMadeOver d r (o ∷ (p ∷ (q ∷ []))) → IsMadeOfLeaves a o reads bits → IsMadeOfLeaves b p reads bits → IsMadeOfLeaves c q reads bits →
-      IsMadeOfLeaves d r reads bits
-  leaves_three {a} {b} {c} {d} ab bc cd h e f g = record {
-    made = λ m base more is.
+  pub leaves_clamp : {b : Netlist} {r : Signal} {l n : ℕ} → l ≤ n → IsMadeOfLeaves b l r reads bits → IsMadeOfLeaves b n r reads bits
+  leaves_clamp {b} {r} {l} {n} le f = record { made = λ m base j more is. made_deeper m base r (let g : l + j ≤ n + j = omega (arith, le) in g) (f.made m base j more is) }
+
+  pub leaves_one : {b c : Netlist} {i l : ℕ} {r p : Signal} → IsPartOf b c → IsMadeOver c i r (p ∷ []) → IsMadeOfLeaves b l p reads bits → IsMadeOfLeaves c (i + l) r reads bits
+  leaves_one {b} {c} {i} {l} {r} bc h f = record { made = λ m base j more is. made_deeper m base r (omega arith) (h.made m base (l + j) more (f.made m base j (part_on b c m bc more) is, tt)) }
+
+  pub leaves_two : {b c d : Netlist} {i l o : ℕ} {r p q : Signal} → IsPartOf b c → IsPartOf c d → IsMadeOver d i r (p ∷ (q ∷ [])) → IsMadeOfLeaves b l p reads bits → IsMadeOfLeaves c o q reads bits → IsMadeOfLeaves d (i + max l o) r reads bits
+  leaves_two {b} {c} {d} {i} {l} {o} {r} {p} {q} bc cd h f g = record {
+    made = λ m base j more is.
+        let on = part_on c d m cd more in
+        let left = le-max_left l o in
+        let right = le-max_right l o in
+        made_deeper m base r (omega arith) (h.made m base (max l o + j) more (made_deeper m base p (omega (arith, left)) (f.made m base j (part_on b c m bc on) is), (made_deeper m base q (omega (arith, right)) (g.made m base j on is), tt)));
+  }
+
+  pub leaves_three : {a b c d : Netlist} {i k l n : ℕ} {r o p q : Signal} → IsPartOf a b → IsPartOf b c → IsPartOf c d → IsMadeOver d i r (o ∷ (p ∷ (q ∷ []))) → IsMadeOfLeaves a k o reads bits → IsMadeOfLeaves b l p reads bits → IsMadeOfLeaves c n q reads bits →
+      IsMadeOfLeaves d (i + max k (max l n)) r reads bits
+  leaves_three {a} {b} {c} {d} {i} {k} {l} {n} {r} {o} {p} {q} ab bc cd h e f g = record {
+    made = λ m base j more is.
         let on_c = part_on c d m cd more in
         let on_b = part_on b c m bc on_c in
-        h.made m base more (e.made m base (part_on a b m ab on_b) is, (f.made m base on_b is, (g.made m base on_c is, tt)));
+        let first = le-max_left k (max l n) in
+        let rest = le-max_right k (max l n) in
+        let second = le-max_left l n in
+        let third = le-max_right l n in
+        made_deeper m base r (omega arith) (h.made m base (max k (max l n) + j) more (
+          made_deeper m base o (omega (arith, first)) (e.made m base j (part_on a b m ab on_b) is),
+          (made_deeper m base p (omega (arith, rest, second)) (f.made m base j on_b is), (made_deeper m base q (omega (arith, rest, third)) (g.made m base j on_c is), tt)),
+        ));
   }

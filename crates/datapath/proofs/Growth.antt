@@ -2,10 +2,9 @@
 use Rattle.std.proofs.Common.{ℕ, List, ◌≡◌, ◌⊎◌, ◌<◌, ◌^◌, [], refl, subst, sym, ◌∙◌, inl, Result, Ok, Err, OnOk, OnErr, ◌+◌, ◌≤◌, length, ap, arith, inr}
 use Rattle.std.specs.Prelude.{All, Contains}
 use Rattle.std.proofs.lemmas.List.{length_push}
-use Rattle.std.proofs.lemmas.List.Elements.{All-nil, All-head, All-contains, Contains-append_left}
+use Rattle.std.proofs.lemmas.List.Elements.{All-nil, All-head, Contains-append_left}
 use Rattle.wiring.specs.declared.right.Right.{Right}
 use Rattle.wiring.specs.Rights.{right_value}
-use Rattle.wiring.specs.BufferBits.{right_reads}
 use Rattle.datapath.specs.declared.operand.Signal.{Signal}
 use Rattle.datapath.specs.declared.operand.Signal.TheVariants as signal
 use Rattle.wiring.specs.declared.netlist.Net.{Net}
@@ -15,7 +14,8 @@ use Rattle.wiring.specs.Snapshot.{Snapshot, net_value, word_value, right_accesse
 use Rattle.wiring.specs.Sizes.{IsWidth, IsConstant, SizedNumber}
 use Rattle.net_build.specs.Includes.{Includes, InEach}
 use Rattle.net_build.specs.Runs.{NeverStops, StaysInside}
-use Rattle.net_build.specs.Control.{IsMadeOf, by_assign, IsControlled}
+use Rattle.net_build.specs.Control.{IsControlled}
+use Rattle.net_build.proofs.Depth.{within_wire}
 use Rattle.wiring.specs.declared.netlist.Assign.{Assign}
 use Rattle.net_build.specs.Draft.{IsNet, ValuesFit, AddsWires, with_wire, width_of}
 use Rattle.net_build.proofs.Operands.{operand_more as atom_more, constant_operand, net_operand}
@@ -118,9 +118,9 @@ pub net_is : (old new : Netlist) (r : Right Net ℕ) (n : Net) → ValuesFit new
 net_is old new r n fit net width value at = record {
   width = net_has new n (width_of old r) fit net width;
   value = value;
-  made_of = λ m base more all.
+  within = λ m base j more all.
       let there = subst (λ l. Contains l (let a : Assign = record { target = n; right = r } in a)) (sym more.assigns.1) (Contains-append_left new.assigns more.assigns.0 _ at) in
-      by_assign (record { target = n; right = r }) there refl (λ g c. All-contains (IsMadeOf m base) (right_reads r) g all c);
+      within_wire m n r base j there all;
 }
 
 -- one growth after another

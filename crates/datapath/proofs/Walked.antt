@@ -18,6 +18,7 @@ use Rattle.datapath.specs.declared.operand.Signal.TheVariants as signal
 use Rattle.datapath.specs.declared.lowering.Walked.{Walked}
 use Rattle.datapath.specs.declared.operand.Operand.{Operand}
 use Rattle.datapath.specs.Nets.{IsPartOf, IsMadeOver}
+use Rattle.datapath.specs.Levels.{unary_levels, binary_levels, conversion_levels, scaling_levels, select_levels, edge_levels, logic_levels}
 use Rattle.datapath.specs.Operands.{IsOperand, Carries, worth}
 use Rattle.datapath.specs.Expressions.{HasLeaves, LeavesAreOperands, IsMadeOfLeaves, edge_bits, edged, unary_result, scaling_result, type_of, types_in, type_or, worth_in, worth_or, set_in, is_set, leaf_value, reads_in, bits_in}
 use Rattle.datapath.specs.Walks.{IsPartAt, IsWalked}
@@ -34,10 +35,10 @@ module _ (whole : Tree) (reads : List (Ty × Net)) (bits : List Net) (n k : ℕ)
   walked_as : (b : Netlist) (w : Walked) (e : Tree) → whole ≡ e → IsWalked b w e reads bits n k → IsWalked b w whole reads bits n k
   walked_as b w e is h = let P : Tree → Type 0 = λ g. IsWalked b w g reads bits n k in subst P (sym is) h
 
-  constant_walked : (b : Netlist) (x : Operand) (v : ℤ) (t : Ty) → whole ≡ constant v t → Carries b x t (λ s. v) → IsMadeOver b x.bits [] → IsWalked b (record { operand = x; after = record { read = n; bit = k } }) whole reads bits n k
+  constant_walked : (b : Netlist) (x : Operand) (v : ℤ) (t : Ty) → whole ≡ constant v t → Carries b x t (λ s. v) → IsMadeOver b 0 x.bits [] → IsWalked b (record { operand = x; after = record { read = n; bit = k } }) whole reads bits n k
   constant_walked b x v t is h made = walked_as b _ (constant v t) is (record { carries = h; made = leaves_constant made; read = omega arith; bit = omega arith })
 
-  pub literal_walked : (b : Netlist) (x : Operand) (v u : ℤ) (t : Ty) → whole ≡ constant v t → u ≡ v → Carries b x t (λ s. u) → IsMadeOver b x.bits [] → IsWalked b (record { operand = x; after = record { read = n; bit = k } }) whole reads bits n k
+  pub literal_walked : (b : Netlist) (x : Operand) (v u : ℤ) (t : Ty) → whole ≡ constant v t → u ≡ v → Carries b x t (λ s. u) → IsMadeOver b 0 x.bits [] → IsWalked b (record { operand = x; after = record { read = n; bit = k } }) whole reads bits n k
   literal_walked b x v u t is e h made = constant_walked b x v t is (let P : ℤ → Type 0 = λ z. Carries b x t (λ s. z) in subst P e h) made
 
   pub read_walked : (b : Netlist) (leaf : Ty × Net) (m : ℕ) (edge : Edge) (g : ℕ) (dx dy : ℤ) → whole ≡ read edge g dx dy → m ≡ n + 1 → LeavesAreOperands b reads bits → slice_get reads n ≡ Some leaf →
@@ -54,7 +55,7 @@ module _ (whole : Tree) (reads : List (Ty × Net)) (bits : List Net) (n k : ℕ)
   })
 
   pub shifted_walked : (b c : Netlist) (w : Walked) (x : Operand) (edge : Edge) (dx dy : ℤ) (e : Tree) (m j : ℕ) → whole ≡ shifted edge dx dy e → IsPartOf b c → m ≡ n → j ≡ k + edge_bits edge → IsWalked b w e reads bits m j →
-      Carries c x w.operand.ty (λ s. edged edge (set_in s bits k) (worth s w.operand)) → IsMadeOfLeaves c x.bits reads bits → IsWalked c (record { operand = x; after = w.after }) whole reads bits n k
+      Carries c x w.operand.ty (λ s. edged edge (set_in s bits k) (worth s w.operand)) → IsMadeOfLeaves c (edge_levels edge + logic_levels e) x.bits reads bits → IsWalked c (record { operand = x; after = w.after }) whole reads bits n k
   shifted_walked b c w x edge dx dy e m j is bc here step inner h made =
       let below = at_place b w e reads bits m n j (k + edge_bits edge) here step inner in
       let bit_is = below.bit in
@@ -70,7 +71,7 @@ module _ (whole : Tree) (reads : List (Ty × Net)) (bits : List Net) (n k : ℕ)
       })
 
   pub unary_walked : (b c : Netlist) (w : Walked) (x : Operand) (o : Unary) (e : Tree) → whole ≡ unary o e → IsPartOf b c → IsWalked b w e reads bits n k →
-      Carries c x (unary_result o w.operand.ty) (λ s. unary_value o (worth s w.operand)) → IsMadeOver c x.bits (w.operand.bits ∷ []) → IsWalked c (record { operand = x; after = w.after }) whole reads bits n k
+      Carries c x (unary_result o w.operand.ty) (λ s. unary_value o (worth s w.operand)) → IsMadeOver c (unary_levels o) x.bits (w.operand.bits ∷ []) → IsWalked c (record { operand = x; after = w.after }) whole reads bits n k
   unary_walked b c w x o e is bc inner h made = walked_as c _ (unary o e) is (record {
     carries = record {
       is = h.is ∙ ap (unary_result o) inner.carries.is;
@@ -83,7 +84,7 @@ module _ (whole : Tree) (reads : List (Ty × Net)) (bits : List Net) (n k : ℕ)
   })
 
   pub convert_walked : (b c : Netlist) (w : Walked) (x : Operand) (how : Conversion) (e : Tree) (t : Ty) → whole ≡ convert how e t → IsPartOf b c → IsWalked b w e reads bits n k →
-      Carries c x t (λ s. conversion_value how t (worth s w.operand)) → IsMadeOver c x.bits (w.operand.bits ∷ []) → IsWalked c (record { operand = x; after = w.after }) whole reads bits n k
+      Carries c x t (λ s. conversion_value how t (worth s w.operand)) → IsMadeOver c (conversion_levels how) x.bits (w.operand.bits ∷ []) → IsWalked c (record { operand = x; after = w.after }) whole reads bits n k
   convert_walked b c w x how e t is bc inner h made = walked_as c _ (convert how e t) is (record {
     carries = record {
       is = h.is;
@@ -96,7 +97,7 @@ module _ (whole : Tree) (reads : List (Ty × Net)) (bits : List Net) (n k : ℕ)
   })
 
   pub scale_walked : (b c : Netlist) (w : Walked) (x : Operand) (o : Scaling) (e : Tree) (by : ℕ) → whole ≡ scale o e by → IsPartOf b c → IsWalked b w e reads bits n k →
-      Carries c x (scaling_result o w.operand.ty by) (λ s. scaling_value o (worth s w.operand) by) → IsMadeOver c x.bits (w.operand.bits ∷ []) → IsWalked c (record { operand = x; after = w.after }) whole reads bits n k
+      Carries c x (scaling_result o w.operand.ty by) (λ s. scaling_value o (worth s w.operand) by) → IsMadeOver c (scaling_levels o by) x.bits (w.operand.bits ∷ []) → IsWalked c (record { operand = x; after = w.after }) whole reads bits n k
   scale_walked b c w x o e by is bc inner h made = walked_as c _ (scale o e by) is (record {
     carries = record {
       is = h.is ∙ ap (λ t. scaling_result o t by) inner.carries.is;
@@ -109,7 +110,7 @@ module _ (whole : Tree) (reads : List (Ty × Net)) (bits : List Net) (n k : ℕ)
   })
 
   pub binary_walked : (b c d : Netlist) (w v : Walked) (x : Operand) (o : Binary) (e f : Tree) → whole ≡ binary o e f → IsPartOf b c → IsPartOf c d → IsWalked b w e reads bits n k → IsWalked c v f reads bits w.after.read w.after.bit →
-      Carries d x (binary_result o w.operand.ty v.operand.ty) (λ s. binary_value o (worth s w.operand) (worth s v.operand)) → IsMadeOver d x.bits (w.operand.bits ∷ (v.operand.bits ∷ [])) → IsWalked d (record { operand = x; after = v.after }) whole reads bits n k
+      Carries d x (binary_result o w.operand.ty v.operand.ty) (λ s. binary_value o (worth s w.operand) (worth s v.operand)) → IsMadeOver d (binary_levels o) x.bits (w.operand.bits ∷ (v.operand.bits ∷ [])) → IsWalked d (record { operand = x; after = v.after }) whole reads bits n k
   binary_walked b c d w v x o e f is bc cd left right h made =
       let there = at_place c v f reads bits w.after.read (n + reads_in e) w.after.bit (k + bits_in e) left.read left.bit right in
       let r = there.read in let t = there.bit in
@@ -129,7 +130,7 @@ module _ (whole : Tree) (reads : List (Ty × Net)) (bits : List Net) (n k : ℕ)
 
   pub select_walked : (a b c d : Netlist) (u w v : Walked) (x : Operand) (g e f : Tree) → whole ≡ select g e f → IsPartOf a b → IsPartOf b c → IsPartOf c d →
       IsWalked a u g reads bits n k → IsWalked b w e reads bits u.after.read u.after.bit → IsWalked c v f reads bits w.after.read w.after.bit →
-      Carries d x (common_type w.operand.ty v.operand.ty) (λ s. select_value (worth s u.operand) (worth s w.operand) (worth s v.operand)) → IsMadeOver d x.bits (u.operand.bits ∷ (w.operand.bits ∷ (v.operand.bits ∷ []))) →
+      Carries d x (common_type w.operand.ty v.operand.ty) (λ s. select_value (worth s u.operand) (worth s w.operand) (worth s v.operand)) → IsMadeOver d select_levels x.bits (u.operand.bits ∷ (w.operand.bits ∷ (v.operand.bits ∷ []))) →
       IsWalked d (record { operand = x; after = v.after }) whole reads bits n k
   select_walked a b c d u w v x g e f is ab bc cd condition left right h made =
       let first = at_place b w e reads bits u.after.read (n + reads_in g) u.after.bit (k + bits_in g) condition.read condition.bit left in

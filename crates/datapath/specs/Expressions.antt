@@ -15,7 +15,7 @@ use Rattle.wiring.specs.declared.netlist.Holder.TheVariants.{OfNet}
 use Rattle.wiring.specs.Netlist.{Netlist, net_width}
 use Rattle.wiring.specs.Snapshot.{Snapshot, net_value}
 use Rattle.net_build.specs.Draft.{IsNet}
-use Rattle.net_build.specs.Control.{IsMadeOf}
+use Rattle.net_build.specs.Depth.{IsWithin}
 use Rattle.pointwise_ir.specs.declared.expr.Edge.{Edge}
 use Rattle.pointwise_ir.specs.declared.expr.Edge.TheVariants.{Zero, Clamp}
 use Rattle.pointwise_ir.specs.Trees.{Tree, constant, read, shifted, unary, binary, select, convert, scale}
@@ -168,14 +168,14 @@ pub record HasLeaves (e : Tree) (reads : List (Ty × Net)) (bits : List Net) : T
   pub reads_are : length reads ≡ reads_in e
   pub bits_are : length bits ≡ bits_in e
 
--- the leaves' nets are made of the base
-pub record AreLeavesMade (m : Netlist) (base : Holder → Bool) (reads : List (Ty × Net)) (bits : List Net) : Type 0 where
-  pub read : (k : ℕ) (leaf : Ty × Net) → slice_get reads k ≡ Some leaf → IsMadeOf m base (OfNet leaf.1)
-  pub bit : (k : ℕ) (n : Net) → slice_get bits k ≡ Some n → IsMadeOf m base (OfNet n)
+-- the leaves' nets are made of the base, with at most j operators on a path
+pub record AreLeavesMade (m : Netlist) (base : Holder → Bool) (j : ℕ) (reads : List (Ty × Net)) (bits : List Net) : Type 0 where
+  pub read : (k : ℕ) (leaf : Ty × Net) → slice_get reads k ≡ Some leaf → IsWithin m base j (OfNet leaf.1)
+  pub bit : (k : ℕ) (n : Net) → slice_get bits k ≡ Some n → IsWithin m base j (OfNet n)
 
--- made only of the leaves' nets: in every netlist that includes this one it is made of whatever they are made of
-pub record IsMadeOfLeaves (part : Netlist) (r : Signal) (reads : List (Ty × Net)) (bits : List Net) : Type 0 where
-  pub made : (m : Netlist) (base : Holder → Bool) → IsPartOf part m → AreLeavesMade m base reads bits → IsMade m base r
+-- Made only of the leaves' nets, with at most `levels` operators on a path from one of them: in every netlist that includes this one it is made of whatever they are made of, with at most `levels` operators more.
+pub record IsMadeOfLeaves (part : Netlist) (levels : ℕ) (r : Signal) (reads : List (Ty × Net)) (bits : List Net) : Type 0 where
+  pub made : (m : Netlist) (base : Holder → Bool) (j : ℕ) → IsPartOf part m → AreLeavesMade m base j reads bits → IsMade m base (levels + j) r
 
 -- In each valuation the net's bits, read in the expression's type, are the expression's value over what the leaves' nets say.
 abbrev pub IsLowered : Netlist → Tree → List (Ty × Net) → List Net → Net → Type 0

@@ -7,6 +7,7 @@ ghost use Rattle.dk_base.specs.Operators.{unary_value, are_operands, binary_resu
 ghost use Rattle.datapath.specs.declared.operand.Signal.TheVariants as signal;
 ghost use Rattle.datapath.specs.Nets.{Folds, Grows, HasWidth, IsMadeOver};
 ghost use Rattle.datapath.specs.Operands.{IsOperand, Carries, worth};
+ghost use Rattle.datapath.specs.Levels.{unary_levels, binary_levels, scaling_levels, conversion_levels};
 ghost use Rattle.datapath.specs.Expressions.{unary_result, scaling_result, TakesOperand, TakesNumber};
 
 use crate::arithmetic::{difference, negation, product, sum};
@@ -38,7 +39,7 @@ pub fn binary(
     requires ty { IsType (binary_result operator x.ty y.ty) }
     ensures grows { Grows b.old b.new }
     ensures value { IfOk result (λ r. Carries b.new r (binary_result operator x.ty y.ty) (λ s. binary_value operator (worth s x) (worth s y))) }
-    ensures made { IfOk result (λ r. IsMadeOver b.new r.bits (x.bits ∷ (y.bits ∷ []))) }
+    ensures made { IfOk result (λ r. IsMadeOver b.new (binary_levels operator) r.bits (x.bits ∷ (y.bits ∷ []))) }
     ensures folds { IfOk result (λ r. Folds b.old b.new r.bits (x.bits ∷ (y.bits ∷ []))) }
 {
     match operator {
@@ -66,7 +67,7 @@ pub fn unary(b: &mut Builder, operator: Unary, x: Operand) -> Result<Operand, Ou
     requires ty { IsType (unary_result operator x.ty) }
     ensures grows { Grows b.old b.new }
     ensures value { IfOk result (λ r. Carries b.new r (unary_result operator x.ty) (λ s. unary_value operator (worth s x))) }
-    ensures made { IfOk result (λ r. IsMadeOver b.new r.bits (x.bits ∷ [])) }
+    ensures made { IfOk result (λ r. IsMadeOver b.new (unary_levels operator) r.bits (x.bits ∷ [])) }
     ensures folds { IfOk result (λ r. Folds b.old b.new r.bits (x.bits ∷ [])) }
 {
     match operator {
@@ -88,7 +89,7 @@ pub fn scaled(
     requires ty { IsType (scaling_result operator x.ty by) }
     ensures grows { Grows b.old b.new }
     ensures value { IfOk result (λ r. Carries b.new r (scaling_result operator x.ty by) (λ s. scaling_value operator (worth s x) by)) }
-    ensures made { IfOk result (λ r. IsMadeOver b.new r.bits (x.bits ∷ [])) }
+    ensures made { IfOk result (λ r. IsMadeOver b.new (scaling_levels operator by) r.bits (x.bits ∷ [])) }
     ensures folds { IfOk result (λ r. Folds b.old b.new r.bits (x.bits ∷ [])) }
 {
     match operator {
@@ -109,7 +110,7 @@ pub fn converted(
     requires ty { IsType ty }
     ensures grows { Grows b.old b.new }
     ensures value { IfOk result (λ r. Carries b.new r ty (λ s. conversion_value how ty (worth s x))) }
-    ensures made { IfOk result (λ r. IsMadeOver b.new r.bits (x.bits ∷ [])) }
+    ensures made { IfOk result (λ r. IsMadeOver b.new (conversion_levels how) r.bits (x.bits ∷ [])) }
     ensures folds { IfOk result (λ r. Folds b.old b.new r.bits (x.bits ∷ [])) }
 {
     match how {
@@ -125,7 +126,7 @@ pub fn gated(b: &mut Builder, bit: Net, x: Operand) -> Result<Operand, OutOfMemo
     requires x { IsOperand b.old x }
     ensures grows { Grows b.old b.new }
     ensures value { IfOk result (λ r. Carries b.new r x.ty (λ s. if nat_eq (net_value s bit) 1 then worth s x else pos 0)) }
-    ensures made { IfOk result (λ r. IsMadeOver b.new r.bits ((signal.Net bit) ∷ (x.bits ∷ []))) }
+    ensures made { IfOk result (λ r. IsMadeOver b.new 1 r.bits ((signal.Net bit) ∷ (x.bits ∷ []))) }
 {
     let width = x.ty.width();
     let nothing = constant(width, 0);

@@ -20,7 +20,7 @@ pub fn sum(b: &mut Builder, x: Operand, y: Operand) -> Result<Operand, OutOfMemo
     requires ty { IsType (sum_type x.ty y.ty) }
     ensures grows { Grows b.old b.new }
     ensures value { IfOk result (λ r. Carries b.new r (sum_type x.ty y.ty) (λ nets. worth nets x +ℤ worth nets y)) }
-    ensures made { IfOk result (λ r. IsMadeOver b.new r.bits (x.bits ∷ (y.bits ∷ []))) }
+    ensures made { IfOk result (λ r. IsMadeOver b.new 1 r.bits (x.bits ∷ (y.bits ∷ []))) }
     ensures folds { IfOk result (λ r. Folds b.old b.new r.bits (x.bits ∷ (y.bits ∷ []))) }
 {
     let ty = x.ty.sum(y.ty);
@@ -39,7 +39,7 @@ pub fn difference(b: &mut Builder, x: Operand, y: Operand) -> Result<Operand, Ou
     requires ty { IsType (difference_type x.ty y.ty) }
     ensures grows { Grows b.old b.new }
     ensures value { IfOk result (λ r. Carries b.new r (difference_type x.ty y.ty) (λ nets. worth nets x -ℤ worth nets y)) }
-    ensures made { IfOk result (λ r. IsMadeOver b.new r.bits (x.bits ∷ (y.bits ∷ []))) }
+    ensures made { IfOk result (λ r. IsMadeOver b.new 1 r.bits (x.bits ∷ (y.bits ∷ []))) }
     ensures folds { IfOk result (λ r. Folds b.old b.new r.bits (x.bits ∷ (y.bits ∷ []))) }
 {
     let ty = x.ty.difference(y.ty);
@@ -58,7 +58,7 @@ pub fn product(b: &mut Builder, x: Operand, y: Operand) -> Result<Operand, OutOf
     requires ty { IsType (product_type x.ty y.ty) }
     ensures grows { Grows b.old b.new }
     ensures value { IfOk result (λ r. Carries b.new r (product_type x.ty y.ty) (λ nets. worth nets x *ℤ worth nets y)) }
-    ensures made { IfOk result (λ r. IsMadeOver b.new r.bits (x.bits ∷ (y.bits ∷ []))) }
+    ensures made { IfOk result (λ r. IsMadeOver b.new 1 r.bits (x.bits ∷ (y.bits ∷ []))) }
     ensures folds { IfOk result (λ r. Folds b.old b.new r.bits (x.bits ∷ (y.bits ∷ []))) }
 {
     let ty = x.ty.product(y.ty);
@@ -76,7 +76,7 @@ pub fn negation(b: &mut Builder, x: Operand) -> Result<Operand, OutOfMemory>
     requires ty { IsType (negation_type x.ty) }
     ensures grows { Grows b.old b.new }
     ensures value { IfOk result (λ r. Carries b.new r (negation_type x.ty) (λ nets. pos 0 -ℤ worth nets x)) }
-    ensures made { IfOk result (λ r. IsMadeOver b.new r.bits (x.bits ∷ [])) }
+    ensures made { IfOk result (λ r. IsMadeOver b.new 1 r.bits (x.bits ∷ [])) }
     ensures folds { IfOk result (λ r. Folds b.old b.new r.bits (x.bits ∷ [])) }
 {
     let width = x.ty.width() + 1;

@@ -20,7 +20,7 @@ pub fn conjunction(b: &mut Builder, x: Operand, y: Operand) -> Result<Operand, O
     requires unsigned { IsTrue (not (is_signed x.ty || is_signed y.ty)) }
     ensures grows { Grows b.old b.new }
     ensures value { IfOk result (λ r. Carries b.new r (common_type x.ty y.ty) (λ s. pos (bit_and (unsigned_abs (worth s x)) (unsigned_abs (worth s y))))) }
-    ensures made { IfOk result (λ r. IsMadeOver b.new r.bits (x.bits ∷ (y.bits ∷ []))) }
+    ensures made { IfOk result (λ r. IsMadeOver b.new 1 r.bits (x.bits ∷ (y.bits ∷ []))) }
     ensures folds { IfOk result (λ r. Folds b.old b.new r.bits (x.bits ∷ (y.bits ∷ []))) }
 {
     let width = max(x.ty.width(), y.ty.width());
@@ -41,7 +41,7 @@ pub fn disjunction(b: &mut Builder, x: Operand, y: Operand) -> Result<Operand, O
     requires unsigned { IsTrue (not (is_signed x.ty || is_signed y.ty)) }
     ensures grows { Grows b.old b.new }
     ensures value { IfOk result (λ r. Carries b.new r (common_type x.ty y.ty) (λ s. pos (bit_or (unsigned_abs (worth s x)) (unsigned_abs (worth s y))))) }
-    ensures made { IfOk result (λ r. IsMadeOver b.new r.bits (x.bits ∷ (y.bits ∷ []))) }
+    ensures made { IfOk result (λ r. IsMadeOver b.new 1 r.bits (x.bits ∷ (y.bits ∷ []))) }
     ensures folds { IfOk result (λ r. Folds b.old b.new r.bits (x.bits ∷ (y.bits ∷ []))) }
 {
     let width = max(x.ty.width(), y.ty.width());
@@ -62,7 +62,7 @@ pub fn exclusive_or(b: &mut Builder, x: Operand, y: Operand) -> Result<Operand, 
     requires unsigned { IsTrue (not (is_signed x.ty || is_signed y.ty)) }
     ensures grows { Grows b.old b.new }
     ensures value { IfOk result (λ r. Carries b.new r (common_type x.ty y.ty) (λ s. pos (bit_xor (unsigned_abs (worth s x)) (unsigned_abs (worth s y))))) }
-    ensures made { IfOk result (λ r. IsMadeOver b.new r.bits (x.bits ∷ (y.bits ∷ []))) }
+    ensures made { IfOk result (λ r. IsMadeOver b.new 1 r.bits (x.bits ∷ (y.bits ∷ []))) }
     ensures folds { IfOk result (λ r. Folds b.old b.new r.bits (x.bits ∷ (y.bits ∷ []))) }
 {
     let width = max(x.ty.width(), y.ty.width());
@@ -82,7 +82,7 @@ pub fn bit_complement(b: &mut Builder, x: Operand) -> Result<Operand, OutOfMemor
     requires bit { x.ty ≡ Ty.Unsigned 1 }
     ensures grows { Grows b.old b.new }
     ensures value { IfOk result (λ r. Carries b.new r (Ty.Unsigned 1) (λ s. pos 1 -ℤ worth s x)) }
-    ensures made { IfOk result (λ r. IsMadeOver b.new r.bits (x.bits ∷ [])) }
+    ensures made { IfOk result (λ r. IsMadeOver b.new 1 r.bits (x.bits ∷ [])) }
     ensures folds { IfOk result (λ r. Folds b.old b.new r.bits (x.bits ∷ [])) }
 {
     let bits = complement(b, 1, x.bits)?;

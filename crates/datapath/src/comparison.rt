@@ -25,7 +25,7 @@ pub fn offset(b: &mut Builder, x: Operand, ty: Ty) -> Result<Signal, OutOfMemory
     requires within { IsWithin x.ty ty }
     ensures grows { Grows b.old b.new }
     ensures word { IfOk result (λ r. IsWord b.new r (width_of ty) (λ nets. unsigned_abs (worth nets x +ℤ pos (below ty)))) }
-    ensures made { IfOk result (λ r. IsMadeOver b.new r (x.bits ∷ [])) }
+    ensures made { IfOk result (λ r. IsMadeOver b.new 1 r (x.bits ∷ [])) }
     ensures folds { IfOk result (λ r. Folds b.old b.new r (x.bits ∷ [])) }
 {
     match ty {
@@ -50,7 +50,7 @@ pub fn is_less(b: &mut Builder, x: Operand, y: Operand) -> Result<Operand, OutOf
     requires ty { IsType (common_type x.ty y.ty) }
     ensures grows { Grows b.old b.new }
     ensures value { IfOk result (λ r. Carries b.new r (Ty.Unsigned 1) (λ nets. truth (int_lt (worth nets x) (worth nets y)))) }
-    ensures made { IfOk result (λ r. IsMadeOver b.new r.bits (x.bits ∷ (y.bits ∷ []))) }
+    ensures made { IfOk result (λ r. IsMadeOver b.new 2 r.bits (x.bits ∷ (y.bits ∷ []))) }
     ensures folds { IfOk result (λ r. Folds b.old b.new r.bits (x.bits ∷ (y.bits ∷ []))) }
 {
     let ty = x.ty.common(y.ty);
@@ -71,7 +71,7 @@ pub fn is_equal(b: &mut Builder, x: Operand, y: Operand) -> Result<Operand, OutO
     requires ty { IsType (common_type x.ty y.ty) }
     ensures grows { Grows b.old b.new }
     ensures value { IfOk result (λ r. Carries b.new r (Ty.Unsigned 1) (λ nets. truth (int_eq (worth nets x) (worth nets y)))) }
-    ensures made { IfOk result (λ r. IsMadeOver b.new r.bits (x.bits ∷ (y.bits ∷ []))) }
+    ensures made { IfOk result (λ r. IsMadeOver b.new 1 r.bits (x.bits ∷ (y.bits ∷ []))) }
     ensures folds { IfOk result (λ r. Folds b.old b.new r.bits (x.bits ∷ (y.bits ∷ []))) }
 {
     let ty = x.ty.common(y.ty);
@@ -100,7 +100,7 @@ pub fn choice(
     requires ty { IsType (common_type x.ty y.ty) }
     ensures grows { Grows b.old b.new }
     ensures value { IfOk result (λ r. Carries b.new r (common_type x.ty y.ty) (λ nets. chosen (worth nets condition) (worth nets x) (worth nets y))) }
-    ensures made { IfOk result (λ r. IsMadeOver b.new r.bits (condition.bits ∷ (x.bits ∷ (y.bits ∷ [])))) }
+    ensures made { IfOk result (λ r. IsMadeOver b.new 1 r.bits (condition.bits ∷ (x.bits ∷ (y.bits ∷ [])))) }
     ensures folds { IfOk result (λ r. Folds b.old b.new r.bits (condition.bits ∷ (x.bits ∷ (y.bits ∷ [])))) }
 {
     let ty = x.ty.common(y.ty);
@@ -118,7 +118,7 @@ pub fn cast(b: &mut Builder, x: Operand, ty: Ty) -> Result<Operand, OutOfMemory>
     requires ty { IsType ty }
     ensures grows { Grows b.old b.new }
     ensures value { IfOk result (λ r. Carries b.new r ty (λ nets. wrap ty (worth nets x))) }
-    ensures made { IfOk result (λ r. IsMadeOver b.new r.bits (x.bits ∷ [])) }
+    ensures made { IfOk result (λ r. IsMadeOver b.new 0 r.bits (x.bits ∷ [])) }
     ensures folds { IfOk result (λ r. Folds b.old b.new r.bits (x.bits ∷ [])) }
 {
     let width = ty.width();
@@ -134,7 +134,7 @@ pub fn minimum(b: &mut Builder, x: Operand, y: Operand) -> Result<Operand, OutOf
     requires ty { IsType (common_type x.ty y.ty) }
     ensures grows { Grows b.old b.new }
     ensures value { IfOk result (λ r. Carries b.new r (common_type x.ty y.ty) (λ nets. int_min (worth nets x) (worth nets y))) }
-    ensures made { IfOk result (λ r. IsMadeOver b.new r.bits (x.bits ∷ (y.bits ∷ []))) }
+    ensures made { IfOk result (λ r. IsMadeOver b.new 3 r.bits (x.bits ∷ (y.bits ∷ []))) }
     ensures folds { IfOk result (λ r. Folds b.old b.new r.bits (x.bits ∷ (y.bits ∷ []))) }
 {
     let above = is_less(b, y, x)?;
@@ -150,7 +150,7 @@ pub fn maximum(b: &mut Builder, x: Operand, y: Operand) -> Result<Operand, OutOf
     requires ty { IsType (common_type x.ty y.ty) }
     ensures grows { Grows b.old b.new }
     ensures value { IfOk result (λ r. Carries b.new r (common_type x.ty y.ty) (λ nets. int_max (worth nets x) (worth nets y))) }
-    ensures made { IfOk result (λ r. IsMadeOver b.new r.bits (x.bits ∷ (y.bits ∷ []))) }
+    ensures made { IfOk result (λ r. IsMadeOver b.new 3 r.bits (x.bits ∷ (y.bits ∷ []))) }
     ensures folds { IfOk result (λ r. Folds b.old b.new r.bits (x.bits ∷ (y.bits ∷ []))) }
 {
     let below = is_less(b, y, x)?;
@@ -166,7 +166,7 @@ pub fn is_at_most(b: &mut Builder, x: Operand, y: Operand) -> Result<Operand, Ou
     requires ty { IsType (common_type x.ty y.ty) }
     ensures grows { Grows b.old b.new }
     ensures value { IfOk result (λ r. Carries b.new r (Ty.Unsigned 1) (λ s. truth (not (int_lt (worth s y) (worth s x))))) }
-    ensures made { IfOk result (λ r. IsMadeOver b.new r.bits (x.bits ∷ (y.bits ∷ []))) }
+    ensures made { IfOk result (λ r. IsMadeOver b.new 3 r.bits (x.bits ∷ (y.bits ∷ []))) }
     ensures folds { IfOk result (λ r. Folds b.old b.new r.bits (x.bits ∷ (y.bits ∷ []))) }
 {
     let opposite = is_less(b, y, x)?;
@@ -182,7 +182,7 @@ pub fn is_at_least(b: &mut Builder, x: Operand, y: Operand) -> Result<Operand, O
     requires ty { IsType (common_type x.ty y.ty) }
     ensures grows { Grows b.old b.new }
     ensures value { IfOk result (λ r. Carries b.new r (Ty.Unsigned 1) (λ s. truth (not (int_lt (worth s x) (worth s y))))) }
-    ensures made { IfOk result (λ r. IsMadeOver b.new r.bits (x.bits ∷ (y.bits ∷ []))) }
+    ensures made { IfOk result (λ r. IsMadeOver b.new 3 r.bits (x.bits ∷ (y.bits ∷ []))) }
     ensures folds { IfOk result (λ r. Folds b.old b.new r.bits (x.bits ∷ (y.bits ∷ []))) }
 {
     let opposite = is_less(b, x, y)?;
@@ -198,7 +198,7 @@ pub fn is_unequal(b: &mut Builder, x: Operand, y: Operand) -> Result<Operand, Ou
     requires ty { IsType (common_type x.ty y.ty) }
     ensures grows { Grows b.old b.new }
     ensures value { IfOk result (λ r. Carries b.new r (Ty.Unsigned 1) (λ s. truth (not (int_eq (worth s x) (worth s y))))) }
-    ensures made { IfOk result (λ r. IsMadeOver b.new r.bits (x.bits ∷ (y.bits ∷ []))) }
+    ensures made { IfOk result (λ r. IsMadeOver b.new 2 r.bits (x.bits ∷ (y.bits ∷ []))) }
     ensures folds { IfOk result (λ r. Folds b.old b.new r.bits (x.bits ∷ (y.bits ∷ []))) }
 {
     let opposite = is_equal(b, x, y)?;

@@ -19,7 +19,7 @@ pub(crate) fn constant(width: u8, value: u64) -> Signal
     requires fits { value < 2 ^ width }
     ensures is { result ≡ signal.Constant width value }
     ensures width { (b : Netlist) → HasWidth b result width }
-    ensures made { (b : Netlist) → IsMadeOver b result [] }
+    ensures made { (b : Netlist) → IsMadeOver b 0 result [] }
     ensures known { IsKnown result }
 {
     Signal::Constant(width, value)
@@ -40,7 +40,7 @@ pub(crate) fn top_bit(width: u8) -> Signal
     requires { IsWidth width }
     ensures is { result ≡ signal.Constant width (2 ^ (width - 1)) }
     ensures width { (b : Netlist) → HasWidth b result width }
-    ensures made { (b : Netlist) → IsMadeOver b result [] }
+    ensures made { (b : Netlist) → IsMadeOver b 0 result [] }
     ensures known { IsKnown result }
 {
     constant(width, half(width))
@@ -93,7 +93,7 @@ pub(crate) fn folded(
     requires y { HasWidth b.now y width }
     requires divisor { DividesByDivisor operator (atom_of y) }
     ensures word { IfSome result (λ r. IsWord b.now r (operator_width operator width) (λ s. operator_value operator width (bits_of s x) (bits_of s y))) }
-    ensures made { IfSome result (λ r. IsMadeOver b.now r []) }
+    ensures made { IfSome result (λ r. IsMadeOver b.now 0 r []) }
     ensures known { IfSome result IsKnown }
     ensures complete { AreKnown (x ∷ (y ∷ [])) → IsSome result }
 {
@@ -110,7 +110,7 @@ pub(crate) fn folded_join(b: &Builder, high: u8, x: Signal, low: u8, y: Signal) 
     requires x { HasWidth b.now x high }
     requires y { HasWidth b.now y low }
     ensures word { IfSome result (λ r. IsWord b.now r (high + low) (λ s. bits_of s x * 2 ^ low + bits_of s y)) }
-    ensures made { IfSome result (λ r. IsMadeOver b.now r []) }
+    ensures made { IfSome result (λ r. IsMadeOver b.now 0 r []) }
     ensures known { IfSome result IsKnown }
     ensures complete { AreKnown (x ∷ (y ∷ [])) → IsSome result }
 {
@@ -125,7 +125,7 @@ pub(crate) fn folded_repeat(b: &Builder, count: u8, x: Signal) -> Option<Signal>
     requires width { IsWidth count }
     requires x { HasWidth b.now x 1 }
     ensures word { IfSome result (λ r. IsWord b.now r count (λ s. repeated count 1 (bits_of s x))) }
-    ensures made { IfSome result (λ r. IsMadeOver b.now r []) }
+    ensures made { IfSome result (λ r. IsMadeOver b.now 0 r []) }
     ensures known { IfSome result IsKnown }
     ensures complete { AreKnown (x ∷ []) → IsSome result }
 {
@@ -139,7 +139,7 @@ pub(crate) fn folded_not(b: &Builder, width: u8, x: Signal) -> Option<Signal>
     requires width { IsWidth width }
     requires x { HasWidth b.now x width }
     ensures word { IfSome result (λ r. IsWord b.now r width (λ s. 2 ^ width - 1 - bits_of s x)) }
-    ensures made { IfSome result (λ r. IsMadeOver b.now r []) }
+    ensures made { IfSome result (λ r. IsMadeOver b.now 0 r []) }
     ensures known { IfSome result IsKnown }
     ensures complete { AreKnown (x ∷ []) → IsSome result }
 {
@@ -155,7 +155,7 @@ pub(crate) fn folded_part(b: &Builder, width: u8, x: Signal, low: u8, count: u8)
     requires inside { low + count ≤ width }
     requires x { HasWidth b.now x width }
     ensures word { IfSome result (λ r. IsWord b.now r count (λ s. bits_of s x / 2 ^ low % 2 ^ count)) }
-    ensures made { IfSome result (λ r. IsMadeOver b.now r []) }
+    ensures made { IfSome result (λ r. IsMadeOver b.now 0 r []) }
     ensures known { IfSome result IsKnown }
     ensures complete { AreKnown (x ∷ []) → IsSome result }
 {

@@ -1,17 +1,19 @@
 // Absolute values, and quotients rounded toward zero.
 
-ghost use Rattle.std.specs.Prelude.{◌≡◌, ◌+◌, ◌-◌, ◌/◌, ◌%◌, ◌^◌, ◌<◌, ◌≤◌, pos, int_div, unsigned_abs, nat_eq, if◌then◌else◌, IfOk, ◌∷◌, []};
+ghost use Rattle.std.specs.Prelude.{◌≡◌, ◌+◌, ◌-◌, ◌/◌, ◌%◌, ◌^◌, ◌<◌, ◌≤◌, pos, int_div, unsigned_abs, nat_eq, if◌then◌else◌, false, IfOk, IfSome, IfNone, ◌∷◌, []};
 ghost use Rattle.dk_base.specs.Types.{IsType, width_of, magnitude_type};
 ghost use Rattle.dk_base.specs.Numbers.{number};
 ghost use Rattle.dk_base.specs.declared.ty.Ty.TheVariants.{Signed};
 ghost use Rattle.datapath.specs.Nets.{Folds, Grows, HasWidth, IsWord, bits_of, IsMadeOver};
 ghost use Rattle.wiring.specs.Sizes.{IsWidth};
 ghost use Rattle.datapath.specs.Operands.{IsOperand, Carries, worth};
+ghost use Rattle.datapath.specs.Levels.{is_power, quotient_levels};
 
 use crate::constants::constant;
 use crate::ends::greatest;
 use crate::operand::{Operand, Signal};
-use crate::words::{choose, divide, part, subtract};
+use crate::shifts::shift_right;
+use crate::words::{add, choose, divide, part, repeat, subtract, with_zeros};
 use dk_base::{OutOfMemory, Ty};
 use net_build::Builder;
 
@@ -24,7 +26,7 @@ fn turned(b: &mut Builder, width: u8, sign: Signal, x: Signal) -> Result<Signal,
     ensures grows { Grows b.old b.new }
     ensures word { IfOk result (λ r. IsWord b.new r width
         (λ nets. if nat_eq (bits_of nets sign) 1 then (0 + 2 ^ width - bits_of nets x) % 2 ^ width else bits_of nets x)) }
-    ensures made { IfOk result (λ r. IsMadeOver b.new r (sign ∷ (x ∷ []))) }
+    ensures made { IfOk result (λ r. IsMadeOver b.new 2 r (sign ∷ (x ∷ []))) }
     ensures folds { IfOk result (λ r. Folds b.old b.new r (sign ∷ (x ∷ []))) }
 {
     let negative = subtract(b, width, constant(width, 0), x)?;
@@ -39,7 +41,7 @@ fn signed_magnitude(b: &mut Builder, width: u8, x: Operand) -> Result<Operand, O
     requires ty { x.ty ≡ Signed width }
     ensures grows { Grows b.old b.new }
     ensures value { IfOk result (λ r. Carries b.new r (Ty.Unsigned width) (λ nets. pos (unsigned_abs (worth nets x)))) }
-    ensures made { IfOk result (λ r. IsMadeOver b.new r.bits (x.bits ∷ [])) }
+    ensures made { IfOk result (λ r. IsMadeOver b.new 2 r.bits (x.bits ∷ [])) }
     ensures folds { IfOk result (λ r. Folds b.old b.new r.bits (x.bits ∷ [])) }
 {
     let sign = part(b, width, x.bits, width - 1, 1)?;
@@ -63,7 +65,7 @@ fn unsigned_quotient(
     requires by { 0 < by }
     ensures grows { Grows b.old b.new }
     ensures value { IfOk result (λ r. Carries b.new r (Ty.Unsigned width) (λ nets. int_div (worth nets x) (pos by))) }
-    ensures made { IfOk result (λ r. IsMadeOver b.new r.bits (x.bits ∷ [])) }
+    ensures made { IfOk result (λ r. IsMadeOver b.new 1 r.bits (x.bits ∷ [])) }
     ensures folds { IfOk result (λ r. Folds b.old b.new r.bits (x.bits ∷ [])) }
 {
     let ty = Ty::Unsigned(width);
@@ -77,6 +79,111 @@ fn unsigned_quotient(
     Ok(Operand { bits: atom, ty })
 }
 
+// The power of two that a number is, if it is one.
+fn power_of(by: u64) -> Option<u8>
+    ensures some { IfSome result (λ k. by ≡ 2 ^ k) }
+    ensures none { IfNone result (is_power by ≡ false) }
+{
+    let k = by.trailing_zeros();
+    if k < 64 && 1u64 << k == by {
+        return Some(k as u8);
+    }
+    None
+}
+
+// The quotient of a signed operand by a power of two, rounded toward zero. To a negative number what a shift would round down is added first.
+#[tactic(auto, using(crate::proofs::Carried::later))]
+fn shifted_toward_zero(
+    b: &mut Builder,
+    width: u8,
+    x: Operand,
+    by: u8,
+) -> Result<Operand, OutOfMemory>
+    requires x { IsOperand b.old x }
+    requires ty { x.ty ≡ Signed width }
+    requires some { 1 ≤ by }
+    requires by { by < width }
+    ensures grows { Grows b.old b.new }
+    ensures value { IfOk result (λ r. Carries b.new r x.ty (λ nets. int_div (worth nets x) (pos (2 ^ by)))) }
+    ensures made { IfOk result (λ r. IsMadeOver b.new 1 r.bits (x.bits ∷ [])) }
+    ensures folds { IfOk result (λ r. Folds b.old b.new r.bits (x.bits ∷ [])) }
+{
+    let sign = part(b, width, x.bits, width - 1, 1)?;
+    let ones = repeat(b, by, sign)?;
+    let missing = with_zeros(b, width - by, by, ones)?;
+    let bits = add(b, width, x.bits, missing)?;
+    let raised = Operand { bits, ty: x.ty };
+    let quotient = shift_right(b, raised, by)?;
+    Ok(quotient)
+}
+
+// The quotient of a signed operand by any number: that of the absolute values, with the sign.
+#[tactic(auto, using(crate::proofs::Carried::later))]
+fn turned_quotient(b: &mut Builder, width: u8, x: Operand, by: u64) -> Result<Operand, OutOfMemory>
+    requires x { IsOperand b.old x }
+    requires ty { x.ty ≡ Signed width }
+    requires by { 0 < by }
+    ensures grows { Grows b.old b.new }
+    ensures value { IfOk result (λ r. Carries b.new r x.ty (λ nets. int_div (worth nets x) (pos by))) }
+    ensures made { IfOk result (λ r. IsMadeOver b.new 5 r.bits (x.bits ∷ [])) }
+    ensures folds { IfOk result (λ r. Folds b.old b.new r.bits (x.bits ∷ [])) }
+{
+    let size = signed_magnitude(b, width, x)?;
+    let q = unsigned_quotient(b, width, size, by)?;
+    let sign = part(b, width, x.bits, width - 1, 1)?;
+    let atom = turned(b, width, sign, q.bits)?;
+    Ok(Operand {
+        bits: atom,
+        ty: x.ty,
+    })
+}
+
+// The quotient of a signed operand by a power of two: 0 if no number of its width is so far from 0.
+#[tactic(auto, using(crate::proofs::Carried::later))]
+fn power_quotient(b: &mut Builder, width: u8, x: Operand, by: u8) -> Result<Operand, OutOfMemory>
+    requires x { IsOperand b.old x }
+    requires ty { x.ty ≡ Signed width }
+    ensures grows { Grows b.old b.new }
+    ensures value { IfOk result (λ r. Carries b.new r x.ty (λ nets. int_div (worth nets x) (pos (2 ^ by)))) }
+    ensures made { IfOk result (λ r. IsMadeOver b.new 1 r.bits (x.bits ∷ [])) }
+    ensures folds { IfOk result (λ r. Folds b.old b.new r.bits (x.bits ∷ [])) }
+{
+    if by == 0 {
+        return Ok(x);
+    }
+    if by >= width {
+        return Ok(Operand {
+            bits: constant(width, 0),
+            ty: x.ty,
+        });
+    }
+    let quotient = shifted_toward_zero(b, width, x, by)?;
+    Ok(quotient)
+}
+
+// The quotient of a signed operand.
+#[tactic(auto, using(crate::proofs::Carried::later))]
+fn signed_quotient(b: &mut Builder, width: u8, x: Operand, by: u64) -> Result<Operand, OutOfMemory>
+    requires x { IsOperand b.old x }
+    requires ty { x.ty ≡ Signed width }
+    requires by { 0 < by }
+    ensures grows { Grows b.old b.new }
+    ensures value { IfOk result (λ r. Carries b.new r x.ty (λ nets. int_div (worth nets x) (pos by))) }
+    ensures made { IfOk result (λ r. IsMadeOver b.new (quotient_levels by) r.bits (x.bits ∷ [])) }
+    ensures folds { IfOk result (λ r. Folds b.old b.new r.bits (x.bits ∷ [])) }
+{
+    match power_of(by) {
+        Some(k) => {
+            let q = power_quotient(b, width, x, k)?;
+            Ok(q)
+        }
+        None => {
+            let q = turned_quotient(b, width, x, by)?;
+            Ok(q)
+        }
+    }
+}
+
 /// An operand's number divided by a constant, rounded toward zero.
 #[tactic(auto, using(crate::proofs::Carried::later))]
 pub fn quotient(b: &mut Builder, x: Operand, by: u64) -> Result<Operand, OutOfMemory>
@@ -84,7 +191,7 @@ pub fn quotient(b: &mut Builder, x: Operand, by: u64) -> Result<Operand, OutOfMe
     requires by { 0 < by }
     ensures grows { Grows b.old b.new }
     ensures value { IfOk result (λ r. Carries b.new r x.ty (λ nets. int_div (worth nets x) (pos by))) }
-    ensures made { IfOk result (λ r. IsMadeOver b.new r.bits (x.bits ∷ [])) }
+    ensures made { IfOk result (λ r. IsMadeOver b.new (quotient_levels by) r.bits (x.bits ∷ [])) }
     ensures folds { IfOk result (λ r. Folds b.old b.new r.bits (x.bits ∷ [])) }
 {
     match x.ty {
@@ -93,14 +200,8 @@ pub fn quotient(b: &mut Builder, x: Operand, by: u64) -> Result<Operand, OutOfMe
             Ok(q)
         }
         Ty::Signed(width) => {
-            let size = signed_magnitude(b, width, x)?;
-            let q = unsigned_quotient(b, width, size, by)?;
-            let sign = part(b, width, x.bits, width - 1, 1)?;
-            let atom = turned(b, width, sign, q.bits)?;
-            Ok(Operand {
-                bits: atom,
-                ty: x.ty,
-            })
+            let q = signed_quotient(b, width, x, by)?;
+            Ok(q)
         }
     }
 }
@@ -111,7 +212,7 @@ pub fn magnitude(b: &mut Builder, x: Operand) -> Result<Operand, OutOfMemory>
     requires x { IsOperand b.old x }
     ensures grows { Grows b.old b.new }
     ensures value { IfOk result (λ r. Carries b.new r (magnitude_type x.ty) (λ nets. pos (unsigned_abs (worth nets x)))) }
-    ensures made { IfOk result (λ r. IsMadeOver b.new r.bits (x.bits ∷ [])) }
+    ensures made { IfOk result (λ r. IsMadeOver b.new 2 r.bits (x.bits ∷ [])) }
     ensures folds { IfOk result (λ r. Folds b.old b.new r.bits (x.bits ∷ [])) }
 {
     match x.ty {

@@ -12,6 +12,7 @@ ghost use Rattle.datapath.specs.Operands.{IsOperand, Carries, worth};
 ghost use Rattle.wiring.specs.declared.netlist.Net.{Net};
 ghost use Rattle.dk_base.specs.declared.ty.Ty.{Ty};
 ghost use Rattle.datapath.specs.Expressions.{IsLeafless, AreLeaves, LeavesAreOperands, HasLeaves, IsLowered, IsMadeOfLeaves, AreReadsOf, IsTyped, type_of, types_in, edge_bits, edged, set_in};
+ghost use Rattle.datapath.specs.Levels.{edge_levels, logic_levels};
 ghost use Rattle.datapath.specs.Walks.{IsPartAt, IsWalked};
 
 use crate::apply::{binary, converted, gated, scaled, unary};
@@ -98,7 +99,7 @@ fn literal(value: i128, ty: Ty) -> Operand
     requires ty { IsType ty }
     requires value { IsIn ty value }
     ensures value { (b : Netlist) → Carries b result ty (λ s. value) }
-    ensures made { (b : Netlist) → IsMadeOver b result.bits [] }
+    ensures made { (b : Netlist) → IsMadeOver b 0 result.bits [] }
     ensures known { IsKnown result.bits }
 {
     let bits = constant(ty.width(), code_of(value, ty));
@@ -134,7 +135,8 @@ fn shifted(
     requires one_bit { (j : ℕ) (n : Net) → slice_get bits.now j ≡ Some n → HasWidth b.old (signal.Net n) 1 }
     ensures grows { Grows b.old b.new }
     ensures value { IfOk result (λ r. Carries b.new r x.ty (λ s. edged edge (set_in s bits.now k) (worth s x))) }
-    ensures made { IfOk result (λ r. (reads : List (Ty × Net)) → IsMadeOfLeaves b.old x.bits reads bits.now → IsMadeOfLeaves b.new r.bits reads bits.now) }
+    ensures made { IfOk result (λ r. (reads : List (Ty × Net)) (levels : ℕ) → IsMadeOfLeaves b.old levels x.bits reads bits.now
+        → IsMadeOfLeaves b.new (edge_levels edge + levels) r.bits reads bits.now) }
     ensures folds { IfOk result (λ r. edge_bits edge ≡ 0 → Folds b.old b.new r.bits (x.bits ∷ [])) }
 {
     match edge {
@@ -214,13 +216,13 @@ pub fn typed_over_leaves_law()
         → AreReadsOf types e (types_in reads) 0 → IsTyped e (types_in reads) 0 × (type_of e (types_in reads) 0 ≡ t) }
 {}
 
-/// The net of an expression over the nets of its leaves. Its bits, read in the expression's type, are the expression's value over what the leaves' nets say. It adds wires alone, no assign that reads an array, and is made of the leaves' nets alone. Where there is no leaf, it is a constant, and takes one assign at most. It calls itself as deep as the expression is.
+/// The net of an expression over the nets of its leaves. Its bits, read in the expression's type, are the expression's value over what the leaves' nets say. It adds wires alone, no assign that reads an array, and is made of the leaves' nets alone, with at most as many operators on a path from one as `logic_levels` counts. Where there is no leaf, it is a constant, and takes one assign at most. It calls itself as deep as the expression is.
 pub fn lower(e: &Expr, b: &mut Builder, leaves: &Leaves) -> Result<Net, OutOfMemory>
     requires nets { AreLeaves b.old leaves.now.reads.items leaves.now.bits.items }
     requires leaves { HasLeaves (tree_of e.now) leaves.now.reads.items leaves.now.bits.items }
     ensures grows { Grows b.old b.new }
     ensures value { IfOk result (IsLowered b.new (tree_of e.now) leaves.now.reads.items leaves.now.bits.items) }
-    ensures made { IfOk result (λ n. IsMadeOfLeaves b.new (signal.Net n) leaves.now.reads.items leaves.now.bits.items) }
+    ensures made { IfOk result (λ n. IsMadeOfLeaves b.new (logic_levels (tree_of e.now)) (signal.Net n) leaves.now.reads.items leaves.now.bits.items) }
     ensures constant { IfOk result (λ n. IsLeafless (tree_of e.now) → length b.new.assigns ≤ length b.old.assigns + 1) }
 {
     b.law();

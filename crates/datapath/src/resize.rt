@@ -19,7 +19,7 @@ pub fn resized(b: &mut Builder, x: Operand, width: u8) -> Result<Signal, OutOfMe
     requires width { IsWidth width }
     ensures grows { Grows b.old b.new }
     ensures word { IfOk result (λ r. IsWord b.new r width (λ nets. code width (worth nets x))) }
-    ensures made { IfOk result (λ r. IsMadeOver b.new r (x.bits ∷ [])) }
+    ensures made { IfOk result (λ r. IsMadeOver b.new 0 r (x.bits ∷ [])) }
     ensures folds { IfOk result (λ r. Folds b.old b.new r (x.bits ∷ [])) }
 {
     match x.ty {

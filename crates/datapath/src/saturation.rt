@@ -3,7 +3,7 @@
 ghost use Rattle.std.specs.Prelude.{◌≡◌, ◌+◌, ◌-◌, ◌^◌, ◌<◌, ◌≤◌, int_lt, if◌then◌else◌, IfOk, ◌∷◌, []};
 ghost use Rattle.dk_base.specs.Types.{IsType, width_of, below, above, least_of, greatest_of};
 ghost use Rattle.dk_base.specs.Numbers.{code, saturate};
-ghost use Rattle.datapath.specs.Nets.{Folds, Grows, HasWidth, IsWord, bits_of, IsMadeOver};
+ghost use Rattle.datapath.specs.Nets.{Folds, Grows, HasWidth, IsWord, bit, bits_of, IsMadeOver, IsLimited};
 ghost use Rattle.datapath.specs.Operands.{IsOperand, Carries, worth};
 
 use crate::comparison::offset;
@@ -11,9 +11,59 @@ use crate::constants::constant;
 use crate::ends::{below, greatest};
 use crate::operand::{Operand, Signal};
 use crate::resize::resized;
-use crate::words::{choose, less};
+use crate::words::{and, choose, complement, less, part};
 use dk_base::{OutOfMemory, Ty};
 use net_build::Builder;
+
+// The test that an operand is below the least number of a type. Below 0 are the numbers whose sign is 1.
+#[tactic(auto, using(crate::proofs::Carried::later))]
+fn below_test(b: &mut Builder, x: Operand, ty: Ty) -> Result<Signal, OutOfMemory>
+    requires x { IsOperand b.old x }
+    requires ty { IsType ty }
+    requires deeper { below ty < below x.ty }
+    ensures grows { Grows b.old b.new }
+    ensures word { IfOk result (λ r. IsWord b.new r 1 (λ nets. bit (int_lt (worth nets x) (least_of ty)))) }
+    ensures made { IfOk result (λ r. IsMadeOver b.new 2 r (x.bits ∷ [])) }
+    ensures folds { IfOk result (λ r. Folds b.old b.new r (x.bits ∷ [])) }
+{
+    let width = x.ty.width();
+    let least = below(ty);
+    if least == 0 {
+        let sign = part(b, width, x.bits, width - 1, 1)?;
+        return Ok(sign);
+    }
+    let up = offset(b, x, x.ty)?;
+    let limit = constant(width, below(x.ty) - least);
+    let low = less(b, width, up, limit)?;
+    Ok(low)
+}
+
+// The test that an operand is above the greatest number of a type. Its bits are compared as those of an unsigned number, where its sign is 0.
+#[tactic(auto, using(crate::proofs::Carried::later))]
+fn above_test(b: &mut Builder, x: Operand, ty: Ty) -> Result<Signal, OutOfMemory>
+    requires x { IsOperand b.old x }
+    requires ty { IsType ty }
+    requires greater { above ty < above x.ty }
+    ensures grows { Grows b.old b.new }
+    ensures word { IfOk result (λ r. IsWord b.new r 1 (λ nets. bit (int_lt (greatest_of ty) (worth nets x)))) }
+    ensures made { IfOk result (λ r. IsMadeOver b.new 2 r (x.bits ∷ [])) }
+    ensures folds { IfOk result (λ r. Folds b.old b.new r (x.bits ∷ [])) }
+{
+    let most = greatest(ty);
+    match x.ty {
+        Ty::Unsigned(width) => {
+            let high = less(b, width, constant(width, most), x.bits)?;
+            Ok(high)
+        }
+        Ty::Signed(width) => {
+            let sign = part(b, width, x.bits, width - 1, 1)?;
+            let positive = complement(b, 1, sign)?;
+            let high = less(b, width, constant(width, most), x.bits)?;
+            let test = and(b, 1, positive, high)?;
+            Ok(test)
+        }
+    }
+}
 
 // The bits of the least number where the operand is below it.
 #[tactic(auto, using(crate::proofs::Carried::later))]
@@ -23,16 +73,14 @@ fn raised(b: &mut Builder, x: Operand, ty: Ty, bits: Signal) -> Result<Signal, O
     requires bits { HasWidth b.old bits (width_of ty) }
     ensures grows { Grows b.old b.new }
     ensures word { IfOk result (λ r. IsWord b.new r (width_of ty) (λ nets. if int_lt (worth nets x) (least_of ty) then below ty else bits_of nets bits)) }
-    ensures made { IfOk result (λ r. IsMadeOver b.new r (x.bits ∷ (bits ∷ []))) }
+    ensures made { IfOk result (λ r. IsMadeOver b.new 3 r (x.bits ∷ (bits ∷ []))) }
     ensures folds { IfOk result (λ r. Folds b.old b.new r (x.bits ∷ (bits ∷ []))) }
 {
     let (deep, least) = (below(x.ty), below(ty));
     if deep <= least {
         return Ok(bits);
     }
-    let up = offset(b, x, x.ty)?;
-    let limit = constant(x.ty.width(), deep - least);
-    let low = less(b, x.ty.width(), up, limit)?;
+    let low = below_test(b, x, ty)?;
     let atom = choose(b, ty.width(), low, constant(ty.width(), least), bits)?;
     Ok(atom)
 }
@@ -46,16 +94,14 @@ fn lowered(b: &mut Builder, x: Operand, ty: Ty, bits: Signal) -> Result<Signal, 
     ensures grows { Grows b.old b.new }
     ensures word { IfOk result (λ r. IsWord b.new r (width_of ty)
         (λ nets. if int_lt (greatest_of ty) (worth nets x) then above ty - 1 else bits_of nets bits)) }
-    ensures made { IfOk result (λ r. IsMadeOver b.new r (x.bits ∷ (bits ∷ []))) }
+    ensures made { IfOk result (IsLimited b.new x.bits bits) }
     ensures folds { IfOk result (λ r. Folds b.old b.new r (x.bits ∷ (bits ∷ []))) }
 {
     let (most, greatest) = (greatest(x.ty), greatest(ty));
     if most <= greatest {
         return Ok(bits);
     }
-    let up = offset(b, x, x.ty)?;
-    let limit = constant(x.ty.width(), below(x.ty) + greatest);
-    let high = less(b, x.ty.width(), limit, up)?;
+    let high = above_test(b, x, ty)?;
     let atom = choose(b, ty.width(), high, constant(ty.width(), greatest), bits)?;
     Ok(atom)
 }
@@ -67,7 +113,7 @@ pub fn saturated(b: &mut Builder, x: Operand, ty: Ty) -> Result<Operand, OutOfMe
     requires ty { IsType ty }
     ensures grows { Grows b.old b.new }
     ensures value { IfOk result (λ r. Carries b.new r ty (λ nets. saturate ty (worth nets x))) }
-    ensures made { IfOk result (λ r. IsMadeOver b.new r.bits (x.bits ∷ [])) }
+    ensures made { IfOk result (λ r. IsMadeOver b.new 4 r.bits (x.bits ∷ [])) }
     ensures folds { IfOk result (λ r. Folds b.old b.new r.bits (x.bits ∷ [])) }
 {
     let width = ty.width();

@@ -21,7 +21,7 @@ pub fn shift_left(b: &mut Builder, x: Operand, by: u8) -> Result<Operand, OutOfM
     requires ty { IsType (shifted_type x.ty by) }
     ensures grows { Grows b.old b.new }
     ensures value { IfOk result (λ r. Carries b.new r (shifted_type x.ty by) (λ nets. worth nets x *ℤ pos (2 ^ by))) }
-    ensures made { IfOk result (λ r. IsMadeOver b.new r.bits (x.bits ∷ [])) }
+    ensures made { IfOk result (λ r. IsMadeOver b.new 0 r.bits (x.bits ∷ [])) }
     ensures folds { IfOk result (λ r. Folds b.old b.new r.bits (x.bits ∷ [])) }
 {
     if by == 0 {
@@ -40,7 +40,7 @@ fn high_bits(b: &mut Builder, x: Operand, by: u8) -> Result<Operand, OutOfMemory
     requires by { by < width_of x.ty }
     ensures grows { Grows b.old b.new }
     ensures value { IfOk result (λ r. Carries b.new r (narrowed_type x.ty by) (λ nets. int_div_euclid (worth nets x) (pos (2 ^ by)))) }
-    ensures made { IfOk result (λ r. IsMadeOver b.new r.bits (x.bits ∷ [])) }
+    ensures made { IfOk result (λ r. IsMadeOver b.new 0 r.bits (x.bits ∷ [])) }
     ensures folds { IfOk result (λ r. Folds b.old b.new r.bits (x.bits ∷ [])) }
 {
     let ty = x.ty.narrowed(by);
@@ -56,7 +56,7 @@ fn shift_within(b: &mut Builder, x: Operand, by: u8) -> Result<Operand, OutOfMem
     requires by { by < width_of x.ty }
     ensures grows { Grows b.old b.new }
     ensures value { IfOk result (λ r. Carries b.new r x.ty (λ nets. int_div_euclid (worth nets x) (pos (2 ^ by)))) }
-    ensures made { IfOk result (λ r. IsMadeOver b.new r.bits (x.bits ∷ [])) }
+    ensures made { IfOk result (λ r. IsMadeOver b.new 0 r.bits (x.bits ∷ [])) }
     ensures folds { IfOk result (λ r. Folds b.old b.new r.bits (x.bits ∷ [])) }
 {
     let high = high_bits(b, x, by)?;
@@ -73,7 +73,7 @@ pub fn shift_right(b: &mut Builder, x: Operand, by: u8) -> Result<Operand, OutOf
     requires x { IsOperand b.old x }
     ensures grows { Grows b.old b.new }
     ensures value { IfOk result (λ r. Carries b.new r x.ty (λ nets. int_div_euclid (worth nets x) (pos (2 ^ by)))) }
-    ensures made { IfOk result (λ r. IsMadeOver b.new r.bits (x.bits ∷ [])) }
+    ensures made { IfOk result (λ r. IsMadeOver b.new 0 r.bits (x.bits ∷ [])) }
     ensures folds { IfOk result (λ r. Folds b.old b.new r.bits (x.bits ∷ [])) }
 {
     match x.ty {

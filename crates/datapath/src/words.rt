@@ -58,7 +58,7 @@ fn operated(
     requires divisor { DividesByDivisor operator (atom_of y) }
     ensures grows { Grows b.old b.new }
     ensures word { IfOk result (λ r. IsWord b.new r (operator_width operator width) (λ s. operator_value operator width (bits_of s x) (bits_of s y))) }
-    ensures made { IfOk result (λ r. IsMadeOver b.new r (x ∷ (y ∷ []))) }
+    ensures made { IfOk result (λ r. IsMadeOver b.new 1 r (x ∷ (y ∷ []))) }
     ensures folds { IfOk result (λ r. Folds b.old b.new r (x ∷ (y ∷ []))) }
 {
     match folded(b, operator, width, x, y) {
@@ -77,7 +77,7 @@ pub(crate) fn add(b: &mut Builder, width: u8, x: Signal, y: Signal) -> Result<Si
     requires y { HasWidth b.old y width }
     ensures grows { Grows b.old b.new }
     ensures word { IfOk result (λ r. IsWord b.new r width (λ s. (bits_of s x + bits_of s y) % 2 ^ width)) }
-    ensures made { IfOk result (λ r. IsMadeOver b.new r (x ∷ (y ∷ []))) }
+    ensures made { IfOk result (λ r. IsMadeOver b.new 1 r (x ∷ (y ∷ []))) }
     ensures folds { IfOk result (λ r. Folds b.old b.new r (x ∷ (y ∷ []))) }
 {
     let atom = operated(b, Operator::Add, width, x, y)?;
@@ -96,7 +96,7 @@ pub(crate) fn subtract(
     requires y { HasWidth b.old y width }
     ensures grows { Grows b.old b.new }
     ensures word { IfOk result (λ r. IsWord b.new r width (λ s. (bits_of s x + 2 ^ width - bits_of s y) % 2 ^ width)) }
-    ensures made { IfOk result (λ r. IsMadeOver b.new r (x ∷ (y ∷ []))) }
+    ensures made { IfOk result (λ r. IsMadeOver b.new 1 r (x ∷ (y ∷ []))) }
     ensures folds { IfOk result (λ r. Folds b.old b.new r (x ∷ (y ∷ []))) }
 {
     let atom = operated(b, Operator::Subtract, width, x, y)?;
@@ -115,7 +115,7 @@ pub(crate) fn multiply(
     requires y { HasWidth b.old y width }
     ensures grows { Grows b.old b.new }
     ensures word { IfOk result (λ r. IsWord b.new r width (λ s. bits_of s x * bits_of s y % 2 ^ width)) }
-    ensures made { IfOk result (λ r. IsMadeOver b.new r (x ∷ (y ∷ []))) }
+    ensures made { IfOk result (λ r. IsMadeOver b.new 1 r (x ∷ (y ∷ []))) }
     ensures folds { IfOk result (λ r. Folds b.old b.new r (x ∷ (y ∷ []))) }
 {
     let atom = operated(b, Operator::Multiply, width, x, y)?;
@@ -135,7 +135,7 @@ pub(crate) fn divide(
     requires divisor { IsDivisor (atom_of y) }
     ensures grows { Grows b.old b.new }
     ensures word { IfOk result (λ r. IsWord b.new r width (λ s. bits_of s x / bits_of s y)) }
-    ensures made { IfOk result (λ r. IsMadeOver b.new r (x ∷ (y ∷ []))) }
+    ensures made { IfOk result (λ r. IsMadeOver b.new 1 r (x ∷ (y ∷ []))) }
     ensures folds { IfOk result (λ r. Folds b.old b.new r (x ∷ (y ∷ []))) }
 {
     let atom = operated(b, Operator::Divide, width, x, y)?;
@@ -148,7 +148,7 @@ pub(crate) fn less(b: &mut Builder, width: u8, x: Signal, y: Signal) -> Result<S
     requires y { HasWidth b.old y width }
     ensures grows { Grows b.old b.new }
     ensures word { IfOk result (λ r. IsWord b.new r 1 (λ s. bit (nat_lt (bits_of s x) (bits_of s y)))) }
-    ensures made { IfOk result (λ r. IsMadeOver b.new r (x ∷ (y ∷ []))) }
+    ensures made { IfOk result (λ r. IsMadeOver b.new 1 r (x ∷ (y ∷ []))) }
     ensures folds { IfOk result (λ r. Folds b.old b.new r (x ∷ (y ∷ []))) }
 {
     let atom = operated(b, Operator::Less, width, x, y)?;
@@ -161,7 +161,7 @@ pub(crate) fn equal(b: &mut Builder, width: u8, x: Signal, y: Signal) -> Result<
     requires y { HasWidth b.old y width }
     ensures grows { Grows b.old b.new }
     ensures word { IfOk result (λ r. IsWord b.new r 1 (λ s. bit (nat_eq (bits_of s x) (bits_of s y)))) }
-    ensures made { IfOk result (λ r. IsMadeOver b.new r (x ∷ (y ∷ []))) }
+    ensures made { IfOk result (λ r. IsMadeOver b.new 1 r (x ∷ (y ∷ []))) }
     ensures folds { IfOk result (λ r. Folds b.old b.new r (x ∷ (y ∷ []))) }
 {
     let atom = operated(b, Operator::Equal, width, x, y)?;
@@ -175,7 +175,7 @@ pub(crate) fn and(b: &mut Builder, width: u8, x: Signal, y: Signal) -> Result<Si
     requires y { HasWidth b.old y width }
     ensures grows { Grows b.old b.new }
     ensures word { IfOk result (λ r. IsWord b.new r width (λ s. bit_and (bits_of s x) (bits_of s y))) }
-    ensures made { IfOk result (λ r. IsMadeOver b.new r (x ∷ (y ∷ []))) }
+    ensures made { IfOk result (λ r. IsMadeOver b.new 1 r (x ∷ (y ∷ []))) }
     ensures folds { IfOk result (λ r. Folds b.old b.new r (x ∷ (y ∷ []))) }
 {
     let atom = operated(b, Operator::And, width, x, y)?;
@@ -189,7 +189,7 @@ pub(crate) fn or(b: &mut Builder, width: u8, x: Signal, y: Signal) -> Result<Sig
     requires y { HasWidth b.old y width }
     ensures grows { Grows b.old b.new }
     ensures word { IfOk result (λ r. IsWord b.new r width (λ s. bit_or (bits_of s x) (bits_of s y))) }
-    ensures made { IfOk result (λ r. IsMadeOver b.new r (x ∷ (y ∷ []))) }
+    ensures made { IfOk result (λ r. IsMadeOver b.new 1 r (x ∷ (y ∷ []))) }
     ensures folds { IfOk result (λ r. Folds b.old b.new r (x ∷ (y ∷ []))) }
 {
     let atom = operated(b, Operator::Or, width, x, y)?;
@@ -203,7 +203,7 @@ pub(crate) fn xor(b: &mut Builder, width: u8, x: Signal, y: Signal) -> Result<Si
     requires y { HasWidth b.old y width }
     ensures grows { Grows b.old b.new }
     ensures word { IfOk result (λ r. IsWord b.new r width (λ s. bit_xor (bits_of s x) (bits_of s y))) }
-    ensures made { IfOk result (λ r. IsMadeOver b.new r (x ∷ (y ∷ []))) }
+    ensures made { IfOk result (λ r. IsMadeOver b.new 1 r (x ∷ (y ∷ []))) }
     ensures folds { IfOk result (λ r. Folds b.old b.new r (x ∷ (y ∷ []))) }
 {
     let atom = operated(b, Operator::Xor, width, x, y)?;
@@ -224,7 +224,7 @@ pub(crate) fn choose(
     requires y { HasWidth b.old y width }
     ensures grows { Grows b.old b.new }
     ensures word { IfOk result (λ r. IsWord b.new r width (λ s. if nat_eq (bits_of s c) 1 then bits_of s x else bits_of s y)) }
-    ensures made { IfOk result (λ r. IsMadeOver b.new r (c ∷ (x ∷ (y ∷ [])))) }
+    ensures made { IfOk result (λ r. IsMadeOver b.new 1 r (c ∷ (x ∷ (y ∷ [])))) }
     ensures folds { IfOk result (λ r. Folds b.old b.new r (c ∷ (x ∷ (y ∷ [])))) }
 {
     match known(c) {
@@ -256,7 +256,7 @@ pub(crate) fn join(
     requires y { HasWidth b.old y low }
     ensures grows { Grows b.old b.new }
     ensures word { IfOk result (λ r. IsWord b.new r (high + low) (λ s. bits_of s x * 2 ^ low + bits_of s y)) }
-    ensures made { IfOk result (λ r. IsMadeOver b.new r (x ∷ (y ∷ []))) }
+    ensures made { IfOk result (λ r. IsMadeOver b.new 0 r (x ∷ (y ∷ []))) }
     ensures folds { IfOk result (λ r. Folds b.old b.new r (x ∷ (y ∷ []))) }
 {
     match folded_join(b, high, x, low, y) {
@@ -274,7 +274,7 @@ pub(crate) fn repeat(b: &mut Builder, count: u8, x: Signal) -> Result<Signal, Ou
     requires x { HasWidth b.old x 1 }
     ensures grows { Grows b.old b.new }
     ensures word { IfOk result (λ r. IsWord b.new r count (λ s. repeated count 1 (bits_of s x))) }
-    ensures made { IfOk result (λ r. IsMadeOver b.new r (x ∷ [])) }
+    ensures made { IfOk result (λ r. IsMadeOver b.new 0 r (x ∷ [])) }
     ensures folds { IfOk result (λ r. Folds b.old b.new r (x ∷ [])) }
 {
     match folded_repeat(b, count, x) {
@@ -292,7 +292,7 @@ pub(crate) fn complement(b: &mut Builder, width: u8, x: Signal) -> Result<Signal
     requires x { HasWidth b.old x width }
     ensures grows { Grows b.old b.new }
     ensures word { IfOk result (λ r. IsWord b.new r width (λ s. 2 ^ width - 1 - bits_of s x)) }
-    ensures made { IfOk result (λ r. IsMadeOver b.new r (x ∷ [])) }
+    ensures made { IfOk result (λ r. IsMadeOver b.new 1 r (x ∷ [])) }
     ensures folds { IfOk result (λ r. Folds b.old b.new r (x ∷ [])) }
 {
     match folded_not(b, width, x) {
@@ -310,7 +310,7 @@ fn copied(b: &mut Builder, width: u8, x: Signal) -> Result<Net, OutOfMemory>
     requires x { HasWidth b.old x width }
     ensures grows { Grows b.old b.new }
     ensures word { IfOk result (λ n. IsWord b.new (signal.Net n) width (λ s. bits_of s x)) }
-    ensures made { IfOk result (λ r. IsMadeOver b.new (signal.Net r) (x ∷ [])) }
+    ensures made { IfOk result (λ r. IsMadeOver b.new 0 (signal.Net r) (x ∷ [])) }
     ensures one { length b.new.assigns ≤ length b.old.assigns + 1 }
 {
     let operand = atom(x);
@@ -325,7 +325,7 @@ pub(crate) fn net_of(b: &mut Builder, width: u8, x: Signal) -> Result<Net, OutOf
     requires x { HasWidth b.old x width }
     ensures grows { Grows b.old b.new }
     ensures word { IfOk result (λ n. IsWord b.new (signal.Net n) width (λ s. bits_of s x)) }
-    ensures made { IfOk result (λ r. IsMadeOver b.new (signal.Net r) (x ∷ [])) }
+    ensures made { IfOk result (λ r. IsMadeOver b.new 0 (signal.Net r) (x ∷ [])) }
     ensures one { length b.new.assigns ≤ length b.old.assigns + 1 }
 {
     match x {
@@ -346,7 +346,7 @@ fn slice(b: &mut Builder, width: u8, x: Net, low: u8, count: u8) -> Result<Signa
     requires x { HasWidth b.old (signal.Net x) width }
     ensures grows { Grows b.old b.new }
     ensures word { IfOk result (λ r. IsWord b.new r count (λ s. bits_of s (signal.Net x) / 2 ^ low % 2 ^ count)) }
-    ensures made { IfOk result (λ r. IsMadeOver b.new r ((signal.Net x) ∷ [])) }
+    ensures made { IfOk result (λ r. IsMadeOver b.new 0 r ((signal.Net x) ∷ [])) }
 {
     let first = low as u64;
     let last = first + count as u64 - 1;
@@ -369,7 +369,7 @@ pub(crate) fn part(
     requires x { HasWidth b.old x width }
     ensures grows { Grows b.old b.new }
     ensures word { IfOk result (λ r. IsWord b.new r count (λ s. bits_of s x / 2 ^ low % 2 ^ count)) }
-    ensures made { IfOk result (λ r. IsMadeOver b.new r (x ∷ [])) }
+    ensures made { IfOk result (λ r. IsMadeOver b.new 0 r (x ∷ [])) }
     ensures folds { IfOk result (λ r. Folds b.old b.new r (x ∷ [])) }
 {
     if count == width {
@@ -397,7 +397,7 @@ pub(crate) fn with_zeros(
     requires x { HasWidth b.old x low }
     ensures grows { Grows b.old b.new }
     ensures word { IfOk result (λ r. IsWord b.new r (high + low) (λ s. bits_of s x)) }
-    ensures made { IfOk result (λ r. IsMadeOver b.new r (x ∷ [])) }
+    ensures made { IfOk result (λ r. IsMadeOver b.new 0 r (x ∷ [])) }
     ensures folds { IfOk result (λ r. Folds b.old b.new r (x ∷ [])) }
 {
     let zeros = constant(high, 0);
@@ -419,7 +419,7 @@ pub(crate) fn with_signs(
     requires x { HasWidth b.old x low }
     ensures grows { Grows b.old b.new }
     ensures word { IfOk result (λ r. IsWord b.new r (high + low) (λ s. repeated high 1 (bits_of s x / 2 ^ (low - 1) % 2 ^ 1) * 2 ^ low + bits_of s x)) }
-    ensures made { IfOk result (λ r. IsMadeOver b.new r (x ∷ [])) }
+    ensures made { IfOk result (λ r. IsMadeOver b.new 0 r (x ∷ [])) }
     ensures folds { IfOk result (λ r. Folds b.old b.new r (x ∷ [])) }
 {
     let sign = part(b, low, x, low - 1, 1)?;

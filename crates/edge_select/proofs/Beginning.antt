@@ -1,6 +1,6 @@
 -- A register that is set at one pixel of the first frame, and is 1 from then on.
-use Rattle.std.proofs.Common.{◌≡◌, ◌≢◌, ℕ, zero, suc, ◌+◌, ◌*◌, ◌-◌, ◌/◌, ◌%◌, ◌<◌, ◌≤◌, ◌==◌, nat_le, Bool, true, false, List, [], ◌∷◌, length, Option, None, Some, refl, sym, ap, subst, ◌∙◌, inl, inr, arith, lit≤}
-use Rattle.std.specs.Prelude.{if◌then◌else◌, ◌&&◌, IsTrue, IfSome, Contains, bit_and}
+use Rattle.std.proofs.Common.{◌≡◌, ◌≢◌, ℕ, zero, suc, ◌*◌, ◌-◌, ◌/◌, ◌%◌, ◌<◌, ◌≤◌, ◌==◌, nat_le, Bool, true, false, List, [], ◌∷◌, length, Option, Some, refl, sym, ap, subst, ◌∙◌, inl, inr, arith, lit≤}
+use Rattle.std.specs.Prelude.{if◌then◌else◌, ◌&&◌, IsTrue, IfSome, bit_and}
 use Rattle.std.proofs.lemmas.Nat.{div-add-mod'}
 use Rattle.std.proofs.lemmas.Bool.{cases_lt, cases_eq, eq-eqb, ne_eqb}
 use Rattle.std.proofs.Math.Nat.{mod-eq_of_lt}
@@ -14,19 +14,19 @@ use Rattle.wiring.specs.declared.netlist.Net.{Net}
 use Rattle.wiring.specs.declared.netlist.Holder.{Holder}
 use Rattle.wiring.specs.declared.netlist.Holder.TheVariants.{OfNet}
 use Rattle.wiring.specs.Netlist.{Netlist, net_width, reset_net}
-use Rattle.wiring.specs.Snapshot.{Contents, Snapshot, net_value}
-use Rattle.wiring.specs.Clock.{Clock, bit}
+use Rattle.wiring.specs.Snapshot.{Snapshot, net_value}
+use Rattle.wiring.specs.Clock.{bit}
 use Rattle.wiring.specs.History.{was_reset, is_held, counted}
 use Rattle.net_build.specs.Includes.{Includes, InEach}
 use Rattle.net_build.specs.Draft.{IsNet}
 use Rattle.net_build.specs.Runs.{InEachRun}
 use Rattle.net_build.specs.Control.{IsMadeOf, is_control, is_control_but, IsControl, IsControlBut}
 use Rattle.net_build.specs.Logic.{AddsLogic, AreMadeOf, Computes, IsGate}
-use Rattle.net_build.specs.Counters.{control_nets, AddsControl, Starts}
+use Rattle.net_build.specs.Counters.{AddsControl, Starts}
 use Rattle.net_build.proofs.Parts.{Includes-refl, Includes-trans}
 use Rattle.net_build.proofs.Runs.{clock_more, clock_before, reset_shown}
 use Rattle.net_build.proofs.Clocks.{bool_cases, never, was_off}
-use Rattle.net_build.proofs.Control.{made_more, control_own, control_but_more}
+use Rattle.net_build.proofs.Control.{control_own, control_but_more}
 use Rattle.net_build.proofs.Counting.{one_wide}
 use Rattle.net_build.proofs.Logic.{logic_on, given_source, number_source, net_source, choose_computes, binary_computes, computes_more, computes_from, computes_since, first_in, second_in, none_in, more_in}
 use Rattle.edge_select.specs.declared.counters.Counters.{Counters}

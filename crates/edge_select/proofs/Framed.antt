@@ -32,7 +32,9 @@ use Rattle.edge_select.specs.Logic.{IsBit, IsBoth, IsTestNet}
 use Rattle.edge_select.specs.Pixels.{HasPixel, Follows, IsBitOf}
 use Rattle.edge_select.specs.Counters.{TakesNext}
 use Rattle.edge_select.specs.FrameTests.{AreCounters, IsColumnTest, IsRowTest, AreFrameTests, IsFrameTest, IsPartTest}
+use Rattle.net_build.proofs.Depth.{within_made}
 use Rattle.edge_select.proofs.Lasting.{follows_more}
+use Rattle.edge_select.proofs.Depth.{depth_more}
 use Rattle.edge_select.proofs.Raster.{place}
 use Rattle.edge_select.proofs.Inverting.{inverted}
 use Rattle.edge_select.proofs.Shifts.{column_moved, row_moved}
@@ -58,7 +60,7 @@ column_test_more b a size t f is = record {
   there = net_more b a f t.net is.there;
   width = width_more b a f t.net is.there.declared ∙ is.width;
   value = InEachRun-more (λ m before c s. IsTrue (was_reset before) → net_value s t.net ≡ bit (in_band size.width t.band (column size (length (counted m before))))) b a f is.value;
-  made = control_more b a t.net f is.made;
+  register = depth_more b a 0 t.net f is.register;
 }
 
 pub row_test_more : (b a : Netlist) (size : Size) (t : Test) → Includes b a → IsRowTest a size t → IsRowTest b size t
@@ -66,7 +68,7 @@ row_test_more b a size t f is = record {
   there = net_more b a f t.net is.there;
   width = width_more b a f t.net is.there.declared ∙ is.width;
   value = InEachRun-more (λ m before c s. IsTrue (was_reset before) → (k : ℕ) → k + t.start ≡ length (counted m before) → net_value s t.net ≡ bit (in_band size.height t.band (row size k))) b a f is.value;
-  made = control_more b a t.net f is.made;
+  register = depth_more b a 0 t.net f is.register;
 }
 
 pub pixel_more : (b a : Netlist) (k : Counters) → Includes b a → HasPixel a k.pixel → HasPixel b k.pixel
@@ -177,7 +179,7 @@ module _ (b : Netlist) (size : Size) (delay : ℕ) (some : 1 ≤ size.width) (ta
         subst (IsBitOf (IsIn i (column size k)))
         (sym (turned.value m s clock.whole.includes clock.at.snapshot.settled ∙ turned_bit size.width band (column size (length (counted m before))) (net_value s register) (is.value m from before c s was since) ∙ ap (λ (v : ℕ). bit (in_band size.width band v)) there))
         (moved (column size k) (place size k some tall).column_below);
-    made = turned_made new band register n grows is.made turned;
+    made = turned_made new band register n grows (within_made is.register) turned;
   }
 
   pub row_frame_test : (new : Netlist) (start : ℕ) (band : Band) (register n : Net) (i : Interval) (shift : ℕ) → Includes new b → start ≡ delay % size.width → shift ≡ delay / size.width % size.height → ((y : ℕ) → y < size.height → IsBitOf (IsIn i y) (bit (in_band size.height band ((y + shift) % size.height)))) → IsRowTest b size (record { start = start; band = inner band; net = register }) →
@@ -195,7 +197,7 @@ module _ (b : Netlist) (size : Size) (delay : ℕ) (some : 1 ≤ size.width) (ta
         subst (IsBitOf (IsIn i (row size k)))
         (sym (turned.value m s clock.whole.includes clock.at.snapshot.settled ∙ turned_bit size.height band (row size (k + q * size.width)) (net_value s register) (is.value m from before c s was since (k + q * size.width) count) ∙ ap (λ (v : ℕ). bit (in_band size.height band v)) there))
         (moved (row size k) (place size k some tall).row_below);
-    made = turned_made new band register n grows is.made turned;
+    made = turned_made new band register n grows (within_made is.register) turned;
   }
 
   -- of the same pixels, said in another way

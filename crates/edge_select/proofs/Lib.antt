@@ -15,3 +15,4 @@ pub mod Framed
 pub mod Inverting
 pub mod Made
 pub mod Beginning
+pub mod Depth

@@ -17,7 +17,8 @@ use Rattle.edge_select.specs.declared.counters.Counters.{Counters}
 use Rattle.edge_select.specs.declared.bands.Band.{Band}
 use Rattle.edge_select.specs.Bands.{in_band}
 use Rattle.edge_select.specs.FrameTests.{IsTestOf, AddsRegisterOf, AddsBeside, AreCounters, IsColumnTest, IsRowTest}
-use Rattle.edge_select.proofs.Beside.{beside_logic, beside_on, beside_register, column_control, row_control, test_control, register_is_control}
+use Rattle.edge_select.proofs.Beside.{beside_logic, beside_on, beside_register, column_control, row_control, test_control}
+use Rattle.edge_select.proofs.Depth.{register_within}
 use Rattle.edge_select.proofs.Testing.{column_shown, row_shown}
 use Rattle.edge_select.proofs.Framed.{counters_more}
 
@@ -45,7 +46,7 @@ module _ (new mid old : Netlist) (size : Size) (k : Counters) (band : Band) (fir
     there = adds.net;
     width = adds.width;
     value = column_shown new size k (counters_more new old size k (Includes-trans new mid old adds.includes logic.includes) counters) band first test n adds.takes_test some tall first_is (lasts new mid old size.width of_next k.pixel.column test adds.includes is);
-    made = register_is_control new n adds.takes_test.number adds.takes_test.at;
+    register = register_within new n adds.takes_test.number adds.takes_test.at;
   }
 
 -- of rows
@@ -79,5 +80,5 @@ module _ (new mid one old : Netlist) (size : Size) (k : Counters) (start : ℕ) 
         width = adds.width;
         value = row_shown new size k (counters_more new old size k (Includes-trans new one old grows first_logic.includes) counters) start band first begins test n adds.takes_test some tall low first_is
             (lasts new one old size.width at_start k.pixel.column begins grows at) (lasts new mid one size.height of_row k.pixel.row test adds.includes is);
-        made = register_is_control new n adds.takes_test.number adds.takes_test.at;
+        register = register_within new n adds.takes_test.number adds.takes_test.at;
       }

@@ -13,7 +13,8 @@ use Rattle.wiring.specs.History.{was_reset, counted}
 use Rattle.net_build.specs.Includes.{Includes, InEach, AtEachEdge}
 use Rattle.net_build.specs.Draft.{IsNet, UpdatedBut}
 use Rattle.net_build.specs.Runs.{InEachRun, NeverStops, StillBut}
-use Rattle.net_build.specs.Control.{IsControl, IsControlBut, IsControlled, AddsNoReads}
+use Rattle.net_build.specs.Control.{is_control, IsControl, IsControlBut, IsControlled, AddsNoReads}
+use Rattle.net_build.specs.Depth.{IsWithin}
 use Rattle.net_build.specs.Logic.{Computes}
 use Rattle.net_build.specs.Counters.{taken}
 use Rattle.edge_select.specs.declared.counters.Counters.{Counters}
@@ -79,19 +80,19 @@ pub record AreCounters (b : Netlist) (size : Size) (k : Counters) : Type 0 where
   pub first : ℕ
   pub next : TakesNext b first k
 
--- In each clock after a reset clock, held ones included, the register is the bit of the column of pixel t, with t the number of counted clocks since the reset: whether it is in the band.
+-- In each clock after a reset clock, held ones included, the register is the bit of the column of pixel t, with t the number of counted clocks since the reset: whether it is in the band. No path of assigns to it has an operator.
 pub record IsColumnTest (b : Netlist) (size : Size) (t : Test) : Type 0 where
   pub there : IsNet b t.net
   pub width : net_width b t.net ≡ 1
   pub value : InEachRun b (λ m before c s. IsTrue (was_reset before) → net_value s t.net ≡ bit (in_band size.width t.band (column size (length (counted m before)))))
-  pub made : IsControl b (OfNet t.net)
+  pub register : IsWithin b (is_control b.enable) 0 (OfNet t.net)
 
--- In each clock after a reset clock, held ones included, the register is the bit of the row of pixel t - start, once t is at least the start, with t the number of counted clocks since the reset: whether it is in the band.
+-- In each clock after a reset clock, held ones included, the register is the bit of the row of pixel t - start, once t is at least the start, with t the number of counted clocks since the reset: whether it is in the band. No path of assigns to it has an operator.
 pub record IsRowTest (b : Netlist) (size : Size) (t : Test) : Type 0 where
   pub there : IsNet b t.net
   pub width : net_width b t.net ≡ 1
   pub value : InEachRun b (λ m before c s. IsTrue (was_reset before) → (k : ℕ) → k + t.start ≡ length (counted m before) → net_value s t.net ≡ bit (in_band size.height t.band (row size k)))
-  pub made : IsControl b (OfNet t.net)
+  pub register : IsWithin b (is_control b.enable) 0 (OfNet t.net)
 
 -- In each clock after a reset clock, held ones included, the register is 1 where at least `last` clocks were counted since the reset, and else 0.
 pub record IsStartTest (b : Netlist) (last : ℕ) (register : Net) : Type 0 where

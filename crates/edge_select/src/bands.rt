@@ -8,6 +8,7 @@ ghost use Rattle.wiring.specs.Sizes.{IsWidth};
 ghost use Rattle.wiring.specs.Snapshot.{net_value};
 ghost use Rattle.wiring.specs.Clock.{bit};
 ghost use Rattle.net_build.specs.Draft.{IsNet};
+ghost use Rattle.net_build.specs.Depth.{IsOver};
 ghost use Rattle.net_build.specs.Logic.{AddsLogic, Computes};
 ghost use Rattle.net_build.specs.Counters.{after};
 ghost use Rattle.frame_paths.specs.Moves.{IsIn, IsInterval};
@@ -152,6 +153,7 @@ pub fn turned(b: &mut Builder, test: Net, outside: bool) -> Result<Net, OutOfMem
     requires width { net_width b.old test ≡ 1 }
     ensures logic { AddsLogic b.new b.old }
     ensures test { IfOk result (Computes b.new b.old (test ∷ []) 1 (λ s. if outside then 1 - net_value s test else net_value s test)) }
+    ensures depth { IfOk result (IsOver b.new b.old 1 (test ∷ [])) }
 {
     if outside {
         let net = negated(b, test)?;
@@ -166,6 +168,7 @@ fn negated(b: &mut Builder, test: Net) -> Result<Net, OutOfMemory>
     requires width { net_width b.old test ≡ 1 }
     ensures logic { AddsLogic b.new b.old }
     ensures test { IfOk result (Computes b.new b.old (test ∷ []) 1 (λ s. 1 - net_value s test)) }
+    ensures depth { IfOk result (IsOver b.new b.old 1 (test ∷ [])) }
 {
     let net = gate(b, Right::Not(Atom::Net(test)))?;
     Ok(net)

@@ -1,6 +1,7 @@
 // Tests of where a pixel's neighbours are.
 
-ghost use Rattle.std.specs.Prelude.{◌≡◌, ◌+◌, ◌-◌, ◌<◌, ◌≤◌, ◌^◌, ◌==◌, not, ℤ, pos, ◌+ℤ◌, IsTrue, true, [], ◌∷◌, Some, IfOk, IfSome};
+ghost use Rattle.std.specs.Prelude.{◌≡◌, ◌+◌, ◌-◌, ◌<◌, ◌≤◌, ◌^◌, ◌==◌, not, ℤ, pos, ◌+ℤ◌, IsTrue, true, [], ◌∷◌, ◌++◌, Some, IfOk, IfSome};
+ghost use Rattle.std.specs.Option.{option_to_list};
 ghost use Rattle.dk_base.specs.declared.TheConstants.{MAX_SIDE};
 ghost use Rattle.dk_base.specs.Frames.{in_frame};
 ghost use Rattle.dk_base.specs.FrameSizes.{size_of};
@@ -13,6 +14,7 @@ ghost use Rattle.net_build.specs.Draft.{IsNet};
 ghost use Rattle.edge_select.specs.Steps.{LeadBy, LeadOn};
 ghost use Rattle.frame_paths.specs.Moves.{IsInterval};
 ghost use Rattle.edge_select.specs.Passes.{IsRectangle, PassesOn, is_in_rectangle};
+ghost use Rattle.net_build.specs.Depth.{IsOver};
 ghost use Rattle.net_build.specs.Logic.{AddsLogic, Computes};
 ghost use Rattle.edge_select.specs.Logic.{Tests, IsBit, IsBoth, IsTestNet, is_up_to, is_from, is_within};
 ghost use Rattle.edge_select.specs.Pixels.{HasPixel, IsTest};
@@ -130,6 +132,7 @@ pub fn both(
     requires other { IsBit b.old other }
     ensures logic { AddsLogic b.new b.old }
     ensures test { IfOk result (IsBoth b.new b.old one other) }
+    ensures depth { IfOk result (λ test. IfSome test (IsOver b.new b.old 1 (option_to_list one ++ option_to_list other))) }
 {
     match one {
         None => Ok(other),
@@ -172,6 +175,7 @@ pub fn within(
 pub fn constant_test(b: &mut Builder, passes: bool) -> Result<Net, OutOfMemory>
     ensures logic { AddsLogic b.new b.old }
     ensures test { IfOk result (Computes b.new b.old [] 1 (λ s. bit passes)) }
+    ensures depth { IfOk result (IsOver b.new b.old 0 []) }
 {
     let net = gate(b, Right::Copy(number(1, u64::from(passes))))?;
     Ok(net)
@@ -181,6 +185,7 @@ pub fn constant_test(b: &mut Builder, passes: bool) -> Result<Net, OutOfMemory>
 pub fn test_net(b: &mut Builder, test: Option<Net>) -> Result<Net, OutOfMemory>
     ensures logic { AddsLogic b.new b.old }
     ensures net { IfOk result (IsTestNet b.new b.old test) }
+    ensures depth { IfOk result (IsOver b.new b.old 0 (option_to_list test)) }
 {
     match test {
         Some(net) => Ok(net),

@@ -7,7 +7,8 @@ ghost use Rattle.wiring.specs.Snapshot.{net_value};
 ghost use Rattle.wiring.specs.Clock.{bit};
 ghost use Rattle.wiring.specs.declared.netlist.Holder.TheVariants.{OfNet};
 ghost use Rattle.net_build.specs.Draft.{IsNet};
-ghost use Rattle.net_build.specs.Control.{IsControl};
+ghost use Rattle.net_build.specs.Control.{is_control, IsControl};
+ghost use Rattle.net_build.specs.Depth.{IsWithin};
 ghost use Rattle.net_build.specs.Logic.{AddsLogic};
 ghost use Rattle.net_build.specs.Counters.{after, Starts};
 ghost use Rattle.frame_paths.specs.Moves.{IsIn, IsInterval};
@@ -205,6 +206,7 @@ fn across_test(
     ensures adds { OnOk result (AddsTests b.new b.old tests.new tests.old) }
     ensures tests { OnOk result (AreFrameTests b.new (size_of tests.old.size) tests.new) }
     ensures test { IfOk result (IsPartTest b.new (size_of tests.old.size) delay (λ x y. IsIn interval x)) }
+    ensures depth { IfOk result (λ net. IfSome net (λ n. IsWithin b.new (is_control b.new.enable) 1 (OfNet n))) }
 {
     let side = tests.size.width;
     if is_whole(interval, side) {
@@ -229,6 +231,7 @@ fn down_test(
     ensures adds { OnOk result (AddsTests b.new b.old tests.new tests.old) }
     ensures tests { OnOk result (AreFrameTests b.new (size_of tests.old.size) tests.new) }
     ensures test { IfOk result (IsPartTest b.new (size_of tests.old.size) delay (λ x y. IsIn interval y)) }
+    ensures depth { IfOk result (λ net. IfSome net (λ n. IsWithin b.new (is_control b.new.enable) 1 (OfNet n))) }
 {
     let size = tests.size;
     if is_whole(interval, size.height) {
@@ -255,6 +258,7 @@ fn rectangle_of(
     ensures adds { OnOk result (AddsTests b.new b.old tests.new tests.old) }
     ensures tests { OnOk result (AreFrameTests b.new (size_of tests.old.size) tests.new) }
     ensures test { IfOk result (IsFrameTest b.new (size_of tests.old.size) delay (Passes rectangle)) }
+    ensures depth { IfOk result (λ n. IsWithin b.new (is_control b.new.enable) 2 (OfNet n)) }
 {
     let across = across_test(b, tests, delay, rectangle.across)?;
     let down = down_test(b, tests, delay, rectangle.down)?;
@@ -275,6 +279,7 @@ fn test_of(
     ensures adds { OnOk result (AddsTests b.new b.old tests.new tests.old) }
     ensures tests { OnOk result (AreFrameTests b.new (size_of tests.old.size) tests.new) }
     ensures test { IfOk result (IsFrameTest b.new (size_of tests.old.size) delay (PassesOn rectangle)) }
+    ensures depth { IfOk result (λ n. IsWithin b.new (is_control b.new.enable) 2 (OfNet n)) }
 {
     match rectangle {
         Some(rectangle) => {
@@ -316,6 +321,7 @@ impl FrameTests {
         ensures adds { OnOk result (AddsTests b.new b.old self.new self.old) }
         ensures tests { OnOk result (AreFrameTests b.new (size_of self.old.size) self.new) }
         ensures test { IfOk result (IsFrameTest b.new (size_of self.old.size) delay (LeadBy (size_of self.old.size) steps.now dx dy)) }
+        ensures depth { IfOk result (λ n. IsWithin b.new (is_control b.new.enable) 2 (OfNet n)) }
     {
         let rectangle = passing_pixels(steps, self.size, dx, dy);
         let net = test_of(b, self, delay, rectangle)?;
@@ -328,6 +334,7 @@ impl FrameTests {
         ensures adds { OnOk result (AddsTests b.new b.old self.new self.old) }
         ensures tests { OnOk result (AreFrameTests b.new (size_of self.old.size) self.new) }
         ensures test { IfOk result (IsFrameTest b.new (size_of self.old.size) delay (LeadOn (size_of self.old.size) steps.now)) }
+        ensures depth { IfOk result (λ n. IsWithin b.new (is_control b.new.enable) 2 (OfNet n)) }
     {
         let rectangle = leading_pixels(steps, self.size);
         let net = test_of(b, self, delay, rectangle)?;

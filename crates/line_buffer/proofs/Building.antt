@@ -18,6 +18,7 @@ use Rattle.line_buffer.specs.Places.{last_of, depth_of, ring_shapes, ring_place}
 use Rattle.std.proofs.lemmas.List.Elements.{All-head, All-tail}
 use Rattle.line_buffer.proofs.Adding.{adds_none}
 use Rattle.line_buffer.specs.Rings.{IsRing, AddsTaps, IsRingTap, AreRingTaps}
+use Rattle.line_buffer.specs.Depths.{ring_operators}
 use Rattle.line_buffer.specs.Buffers.{AddsBuffer, IsBuffer, AreMadeOfBuffer}
 use Rattle.line_buffer.specs.Fills.{AreFilled}
 use Rattle.line_buffer.proofs.Filling.{fills_more, fills_none, fills_one, line_takes_net}
@@ -88,8 +89,8 @@ module _ (b0 b1 : Netlist) (width words bits : ℕ) (value : Net) (line : DelayL
     built_fills = fills_more b2 b1 (λ x. true) [] (length b0.arrays) (length b0.arrays + length (ring_shapes width ages)) value more.includes
         (fills_one b1 (λ x. true) [] (length b0.arrays) (length b0.arrays + length (ring_shapes width ages)) value (ap (λ (n : ℕ). length b0.arrays + n) (sym (ap length shapes))) (line_takes_net b1 (λ x. true) (length b0.arrays) words value line.word refl added.delays))
 
-    pub built_made : AreMadeOfBuffer b2 (length b0.arrays) (length b0.arrays + length (ring_shapes width ages)) ages taps
-    built_made = subst (λ (n : ℕ). AreMadeOfBuffer b2 (length b0.arrays) (length b0.arrays + n) ages taps) (ap length shapes)
+    pub built_made : AreMadeOfBuffer b2 ring_operators (length b0.arrays) (length b0.arrays + length (ring_shapes width ages)) ages taps
+    built_made = subst (λ (n : ℕ). AreMadeOfBuffer b2 ring_operators (length b0.arrays) (length b0.arrays + n) ages taps) (ap length shapes)
         (ring_made b2 ages (length b0.arrays) line.index value line.word taps up positive line_here counter_here one_each here (λ k tap et. (tap_at k tap et).net) (λ k tap et. (tap_at k tap et).width))
 
 depth_from : (low m : ℕ) (ages : List ℕ) → low ≤ m → All (λ age. age ≤ m) ages → last_of low ages ≤ m
@@ -108,5 +109,5 @@ still_fills b first width ages value none =
     let empty : length (ring_shapes width ages) ≡ 0 = ap (λ (ss : List Shape). length ss) (ap (λ (h : Bool). if h then [] else (record { width = width; depth = depth_of ages }) ∷ []) (yes_eq (depth_of ages) 0 none)) in
     fills_none b (λ x. true) [] first (first + length (ring_shapes width ages)) value (omega (arith, empty))
 
-pub still_made : (b : Netlist) (first end : ℕ) (ages : List ℕ) (taps : List Net) → IsStrictlyIncreasing ages → depth_of ages ≡ 0 → AreMadeOfBuffer b first end ages taps
-still_made b first end ages taps up none k age tap ea some et = absurd (omega (arith, none, some, age_within ages up k age ea))
+pub still_made : (b : Netlist) (most first end : ℕ) (ages : List ℕ) (taps : List Net) → IsStrictlyIncreasing ages → depth_of ages ≡ 0 → AreMadeOfBuffer b most first end ages taps
+still_made b most first end ages taps up none k age tap ea some et = absurd (omega (arith, none, some, age_within ages up k age ea))

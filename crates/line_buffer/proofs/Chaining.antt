@@ -14,14 +14,16 @@ use Rattle.wiring.specs.declared.netlist.Shape.{Shape}
 use Rattle.wiring.specs.Netlist.{Netlist, net_width, depth}
 use Rattle.net_build.specs.Includes.{Includes}
 use Rattle.net_build.specs.Draft.{IsNet}
-use Rattle.net_build.specs.Control.{IsMadeOf, by_itself, is_control}
-use Rattle.net_build.proofs.Control.{made_more, made_wider}
+use Rattle.net_build.specs.Control.{is_control}
+use Rattle.net_build.specs.Depth.{IsWithin, by_itself}
+use Rattle.net_build.proofs.Depth.{within_more, within_wider}
 use Rattle.wiring.proofs.Search.{at_push}
 use Rattle.net_build.proofs.Grown.{net_more, width_more, depth_more}
 use Rattle.net_build.proofs.Standing.{ready_first, ready_last}
 use Rattle.net_build.proofs.Parts.{Includes-refl}
 use Rattle.line_buffer.specs.declared.chains.Tap.{Tap}
 use Rattle.line_buffer.specs.Places.{last_of, later, depth_of, segment_shapes, chain_shapes, chain_place}
+use Rattle.line_buffer.specs.Depths.{line_operators}
 use Rattle.line_buffer.specs.Buffers.{AddsBuffer, IsBuffer, AreMadeOfBuffer, IsAdded, is_buffer}
 use Rattle.line_buffer.specs.Lines.{IsDelayLine, IsBlockLine, Delays}
 use Rattle.line_buffer.specs.Chains.{AreSegments, AreCopies, is_short, AreMadeOfShort, IsSegment, IsStep, IsChained, IsChain, last_net, later_taps}
@@ -79,16 +81,16 @@ wider_short long c b first end low high f from to within (OfArray x) is =
     and_both (nat_le low x && nat_lt x high) (is_direct long c x) (and_both (nat_le low x) (nat_lt x high) (le_is low x (omega (arith, from, l))) (lt_is x high (omega (arith, to, r))))
     (subst (λ (d : ℕ). IsTrue (not (long d))) (sym same) short)
 
-pub made_range : (long : (words : ℕ) → Bool) (c b : Netlist) (first end low high : ℕ) (n : Net) → Includes c b → low ≤ first → end ≤ high → end ≤ length b.arrays → IsMadeOf b (is_short long b first end) (OfNet n) → IsMadeOf c (is_short long c low high) (OfNet n)
-made_range long c b first end low high n f from to within is = made_more c b (is_short long c low high) f (made_wider b (is_short long b first end) (is_short long c low high) (wider_short long c b first end low high f from to within) is)
+pub made_range : (long : (words : ℕ) → Bool) (c b : Netlist) (most first end low high : ℕ) (n : Net) → Includes c b → low ≤ first → end ≤ high → end ≤ length b.arrays → IsWithin b (is_short long b first end) most (OfNet n) → IsWithin c (is_short long c low high) most (OfNet n)
+made_range long c b most first end low high n f from to within is = within_more c b (is_short long c low high) f (within_wider b (is_short long b first end) (is_short long c low high) (wider_short long c b first end low high f from to within) is)
 
 -- where none is long, these are all arrays
 no_long : (b : Netlist) (first end : ℕ) (h : Holder) → IsTrue (is_short (is_long None) b first end h) → IsTrue (is_buffer b.enable first end h)
 no_long b first end (OfNet n) is = is
 no_long b first end (OfArray x) is = and_left (nat_le first x && nat_lt x end) true is
 
-pub short_buffer : (b : Netlist) (first end : ℕ) (ages : List ℕ) (taps : List Net) → AreMadeOfShort (is_long None) b first end ages taps → AreMadeOfBuffer b first end ages taps
-short_buffer b first end ages taps is k age tap ea some et = made_wider b (is_short (is_long None) b first end) (is_buffer b.enable first end) (no_long b first end) (is k age tap ea some et)
+pub short_buffer : (b : Netlist) (most first end : ℕ) (ages : List ℕ) (taps : List Net) → AreMadeOfShort (is_long None) b most first end ages taps → AreMadeOfBuffer b most first end ages taps
+short_buffer b most first end ages taps is k age tap ea some et = within_wider b (is_short (is_long None) b first end) (is_buffer b.enable first end) (no_long b first end) (is k age tap ea some et)
 
 -- one array that is not long
 one_short : (long : (words : ℕ) → Bool) (b : Netlist) (first : ℕ) → long (depth b first) ≡ false → (h : Holder) → IsTrue (is_buffer b.enable first (first + 1) h) → IsTrue (is_short long b first (first + 1) h)
@@ -100,8 +102,8 @@ one_short long b first short (OfArray x) is =
     and_both (nat_le first x && nat_lt x (first + 1)) (is_direct long b x) is
     (subst (λ (y : ℕ). IsTrue (is_direct long b y)) same (subst (λ (t : Bool). IsTrue (not t)) (sym short) refl))
 
-pub made_short : (long : (words : ℕ) → Bool) (b : Netlist) (first : ℕ) (n : Net) → long (depth b first) ≡ false → IsMadeOf b (is_buffer b.enable first (first + 1)) (OfNet n) → IsMadeOf b (is_short long b first (first + 1)) (OfNet n)
-made_short long b first n short is = made_wider b (is_buffer b.enable first (first + 1)) (is_short long b first (first + 1)) (one_short long b first short) is
+pub made_short : (long : (words : ℕ) → Bool) (b : Netlist) (most first : ℕ) (n : Net) → long (depth b first) ≡ false → IsWithin b (is_buffer b.enable first (first + 1)) most (OfNet n) → IsWithin b (is_short long b first (first + 1)) most (OfNet n)
+made_short long b most first n short is = within_wider b (is_buffer b.enable first (first + 1)) (is_short long b first (first + 1)) (one_short long b first short) is
 
 -- copies of two parts
 same_map : (f g : ℕ → ℕ) (xs : List ℕ) → ((r : ℕ) → Contains xs r → f r ≡ g r) → map f xs ≡ map g xs
@@ -223,19 +225,19 @@ module _ (old b c : Netlist) (width : ℕ) (long : (words : ℕ) → Bool) (valu
     reach : length b.arrays + 1 ≤ length old.arrays + length (chain_shapes width (ages ++ age ∷ []))
     reach = omega (arith, arrays_long, shapes_long width 0 (later (ages ++ age ∷ [])), ap length (later_push ages age some), length-append (later ages) (age ∷ []))
 
-    made_push : AreMadeOfShort long c (length old.arrays) (length old.arrays + length (chain_shapes width (ages ++ age ∷ []))) (ages ++ age ∷ []) (taps ++ to.net ∷ [])
+    made_push : AreMadeOfShort long c line_operators (length old.arrays) (length old.arrays + length (chain_shapes width (ages ++ age ∷ []))) (ages ++ age ∷ []) (taps ++ to.net ∷ [])
     made_push k a tap ea positive et =
         let h : ℕ = length old.arrays + length (chain_shapes width (ages ++ age ∷ [])) in
         let first : length old.arrays ≤ length b.arrays = omega (arith, arrays_long) in
         let before : length old.arrays + length (chain_shapes width ages) ≤ h = omega (arith, reach, arrays_long, shapes_long width 0 (later ages)) in
         let within : length old.arrays + length (chain_shapes width ages) ≤ length b.arrays = omega (arith, arrays_long, shapes_long width 0 (later ages)) in
         let there : length b.arrays + 1 ≤ length c.arrays = omega (arith, ap length segment.adds.arrays, length-append b.arrays ((record { width = width; depth = age - from.age }) ∷ [])) in
-        elim (at_push taps to.net tap k et) as (λ _. IsMadeOf c (is_short long c (length old.arrays) (length old.arrays + length (chain_shapes width (ages ++ age ∷ [])))) (OfNet tap)) [
-          | inl there ↦ elim (at_push ages age a k ea) as (λ _. IsMadeOf c (is_short long c (length old.arrays) (length old.arrays + length (chain_shapes width (ages ++ age ∷ [])))) (OfNet tap)) [
-            | inl earlier ↦ made_range long c b (length old.arrays) (length old.arrays + length (chain_shapes width ages)) (length old.arrays) h tap grows (omega arith) before within (done.made k a tap earlier positive there)
+        elim (at_push taps to.net tap k et) as (λ _. IsWithin c (is_short long c (length old.arrays) (length old.arrays + length (chain_shapes width (ages ++ age ∷ [])))) line_operators (OfNet tap)) [
+          | inl there ↦ elim (at_push ages age a k ea) as (λ _. IsWithin c (is_short long c (length old.arrays) (length old.arrays + length (chain_shapes width (ages ++ age ∷ [])))) line_operators (OfNet tap)) [
+            | inl earlier ↦ made_range long c b line_operators (length old.arrays) (length old.arrays + length (chain_shapes width ages)) (length old.arrays) h tap grows (omega arith) before within (done.made k a tap earlier positive there)
             | inr last ↦ absurd (omega (arith, last.0, slice_get_within taps k tap there, done.one_each))
           ]
-          | inr last ↦ subst (λ (n : Net). IsMadeOf c (is_short long c (length old.arrays) h) (OfNet n)) last.1 (made_range long c c (length b.arrays) (length b.arrays + 1) (length old.arrays) h to.net (Includes-refl c) first reach there segment.made)
+          | inr last ↦ subst (λ (n : Net). IsWithin c (is_short long c (length old.arrays) h) line_operators (OfNet n)) last.1 (made_range long c c line_operators (length b.arrays) (length b.arrays + 1) (length old.arrays) h to.net (Includes-refl c) first reach there segment.made)
         ]
 
     pub chained_beyond : IsChained c old width long value (ages ++ age ∷ []) (taps ++ to.net ∷ []) to
@@ -323,14 +325,14 @@ step_none b width long from age e net wide = record { age_is = sym e; net = net;
 
 -- a segment that is read at the index of its write
 pub line_is_segment : (c b : Netlist) (width words : ℕ) (long : (words : ℕ) → Bool) (from net : Net) → long words ≡ false → AddsBuffer c b ((record { width = width; depth = words }) ∷ []) [] → IsDelayLine c (length b.arrays) words from net → AreReadOnce c b →
-    IsMadeOf c (is_buffer c.enable (length b.arrays) (length b.arrays + 1)) (OfNet net) → IsSegment c b width words long from net
+    IsWithin c (is_buffer c.enable (length b.arrays) (length b.arrays + 1)) line_operators (OfNet net) → IsSegment c b width words long from net
 line_is_segment c b width words long from net short adds line once made = record {
   copies = [];
   adds = adds;
   line = line_delays c (is_direct long c) (length b.arrays) words from net (subst (λ (t : Bool). IsTrue (not t)) (sym deep_short) refl) line;
   wide = sym (ap (λ (t : Bool). map (λ (s : Shape). s.width) (cond t ((record { width = width; depth = words }) ∷ []) [])) short);
   once = both_once long c b once;
-  made = made_short long c (length b.arrays) net deep_short made;
+  made = made_short long c line_operators (length b.arrays) net deep_short made;
 }
   where
     deep_of : slice_get c.arrays (length b.arrays) ≡ Some line.shape → line.shape.depth ≡ words → depth c (length b.arrays) ≡ words
@@ -350,7 +352,7 @@ block_is_segment c b a width words long from net at_least counted adds line once
       ap (λ (w : ℕ). w ∷ []) (ap (net_width c) (sym is) ∙ wide)
       ∙ sym (ap (λ (t : Bool). map (λ (s : Shape). s.width) (cond t ((record { width = width; depth = words }) ∷ []) [])) at_least);
   once = both_joined long c b a ((record { width = width; depth = words }) ∷ []) (length b.regs ∷ []) adds once (both_none long b a counted);
-  made = subst (λ (n : Net). IsMadeOf c (is_short long c (length a.arrays) (length a.arrays + 1)) (OfNet n)) (sym is) (by_itself refl);
+  made = subst (λ (n : Net). IsWithin c (is_short long c (length a.arrays) (length a.arrays + 1)) line_operators (OfNet n)) (sym is) (by_itself refl);
 }
   where
     same : length b.arrays ≡ length a.arrays

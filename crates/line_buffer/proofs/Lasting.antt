@@ -7,8 +7,8 @@ use Rattle.net_build.specs.Includes.{Includes}
 use Rattle.wiring.specs.Clock.{Clock}
 use Rattle.net_build.specs.Draft.{IsNet}
 use Rattle.net_build.specs.Runs.{IsReady}
-use Rattle.net_build.specs.Control.{IsMadeOf}
-use Rattle.net_build.proofs.Control.{made_more}
+use Rattle.net_build.specs.Depth.{IsWithin}
+use Rattle.net_build.proofs.Depth.{within_more}
 use Rattle.net_build.proofs.Grown.{net_more, width_more}
 use Rattle.net_build.proofs.Runs.{clock_more}
 use Rattle.line_buffer.specs.Places.{Place}
@@ -25,9 +25,9 @@ buffer_more b a copies place ages taps value f net is = record {
   waits = λ m from before c s clock. is.waits m from before c s (clock_more b a m from before c s f clock);
 }
 
-pub buffer_made_more : (b a : Netlist) (first end : ℕ) (ages : List ℕ) (taps : List Net) → Includes b a → AreMadeOfBuffer a first end ages taps → AreMadeOfBuffer b first end ages taps
-buffer_made_more b a first end ages taps f is k age tap ea some et =
-    subst (λ (e : Bool). IsMadeOf b (is_buffer e first end) (OfNet tap)) (sym f.enable) (made_more b a (is_buffer a.enable first end) f (is k age tap ea some et))
+pub buffer_made_more : (b a : Netlist) (most first end : ℕ) (ages : List ℕ) (taps : List Net) → Includes b a → AreMadeOfBuffer a most first end ages taps → AreMadeOfBuffer b most first end ages taps
+buffer_made_more b a most first end ages taps f is k age tap ea some et =
+    subst (λ (e : Bool). IsWithin b (is_buffer e first end) most (OfNet tap)) (sym f.enable) (within_more b a (is_buffer a.enable first end) f (is k age tap ea some et))
 
 -- with more copies less is stated
 pub buffer_ready : (b : Netlist) (copies more : List ℕ) (place : (age t : ℕ) → Place) (ages : List ℕ) (taps : List Net) (value : Net) → ((before : List Clock) → IsReady more before → IsReady copies before) → IsBuffer b copies place ages taps value → IsBuffer b more place ages taps value

@@ -18,3 +18,4 @@ pub mod Building
 pub mod Bits
 pub mod Lasting
 pub mod Shared
+pub mod Depth

@@ -10,14 +10,14 @@ use Rattle.wiring.specs.declared.netlist.Holder.{Holder}
 use Rattle.wiring.specs.declared.netlist.Holder.TheVariants.{OfNet, OfArray}
 use Rattle.wiring.specs.declared.netlist.Shape.{Shape}
 use Rattle.wiring.specs.declared.netlist.Update.TheVariants.{Put}
-use Rattle.wiring.specs.BufferBits.{right_reads}
 use Rattle.wiring.specs.Netlist.{Netlist}
 use Rattle.wiring.specs.Snapshot.{net_value, word_value, right_accesses}
 use Rattle.net_build.specs.Includes.{Includes, InEach, AtEachEdge}
 use Rattle.net_build.specs.Draft.{AddsWires, with_wire, with_array, with_update}
 use Rattle.net_build.specs.Runs.{StaysInside}
-use Rattle.net_build.specs.Control.{IsMadeOf, by_itself, is_control, IsControl, AddsReads}
-use Rattle.net_build.proofs.Control.{made_more, made_wider}
+use Rattle.net_build.specs.Control.{is_control, AddsReads}
+use Rattle.net_build.specs.Depth.{IsWithin, by_itself}
+use Rattle.net_build.proofs.Depth.{within_more, within_wider, within_made, within_wire}
 use Rattle.net_build.proofs.Parts.{Includes-trans, at_Begins, InEach-more}
 use Rattle.net_build.proofs.Reading.{reads_word, reads_joined, none_reads}
 use Rattle.net_build.proofs.Updating.{wires_joined}
@@ -26,6 +26,7 @@ use Rattle.net_build.specs.Counters.{control_nets, unless_held}
 use Rattle.line_buffer.specs.Lines.{IsIndex, IsDelayLine}
 use Rattle.line_buffer.specs.Added.{EachAdded}
 use Rattle.line_buffer.specs.Fills.{IsWordAt, IsUnlessHeld}
+use Rattle.line_buffer.specs.Depths.{line_operators}
 use Rattle.line_buffer.specs.Buffers.{AddsBuffer, ReadsInside, is_new, is_buffer}
 use Rattle.line_buffer.proofs.More.{added_weaker, added_joined, inside_more, none_inside, op_inside_in}
 use Rattle.line_buffer.proofs.Filling.{index_control_more, right_more, unless_held_more}
@@ -49,7 +50,7 @@ own_array enable first x e = both (nat_le first x) (nat_lt x (first + 1)) (le_is
     both true false p q = q
     both false q p r = p
 
-module _ (b0 b1 b2 b3 b4 b5 : Netlist) (width words x : ℕ) (index value word stored : Net) (counted : AddsBuffer b1 b0 [] []) (counter : IsIndex b1 words index) (index_control : IsControl b1 (OfNet index)) (some : 0 < words)
+module _ (b0 b1 b2 b3 b4 b5 : Netlist) (width words x : ℕ) (index value word stored : Net) (counted : AddsBuffer b1 b0 [] []) (counter : IsIndex b1 words index) (index_within : IsWithin b1 (is_control b1.enable) line_operators (OfNet index)) (some : 0 < words)
     (made : b2 ≡ with_array b1 (record { width = width; depth = words })) (numbered : x ≡ length b1.arrays) (there : slice_get b2.arrays x ≡ Some (record { width = width; depth = words })) (f21 : Includes b2 b1) (f32 : Includes b3 b2) (read : (b3 ≡ b2) ⊎ (b3 ≡ with_wire b2 (Word x (atom.Net index)))) (wired : AddsWires b3 b2)
     (word_is : InEach b3 (λ m s. net_value s word ≡ word_value s x (net_value s index))) (logic : AddsLogic b4 b3) (stored_is : Computes b4 b3 (control_nets b3.enable ++ word ∷ (value ∷ [])) width (λ s. unless_held b3.enable (net_value s word) (net_value s value) s) stored)
     (f54 : Includes b5 b4) (put : b5 ≡ with_update b4 (Put x (atom.Net index) (atom.Net stored))) (edge : AtEachEdge b5 (λ s next. slice_get next.arrays x ≡ Some (slice_set (slice_index_or s.contents.arrays x []) (net_value s index) (net_value s stored))))
@@ -76,7 +77,7 @@ module _ (b0 b1 b2 b3 b4 b5 : Netlist) (width words x : ℕ) (index value word s
     deep = refl;
     index = index;
     counter = index_more b5 b1 words index f51 counter;
-    control = index_control_more b5 b1 index f51 index_control;
+    control = index_control_more b5 b1 index f51 (within_made index_within);
     read = right_more b5 b3 word (Word x (atom.Net index)) f53 word_read;
     gives = InEach-more (λ m s. net_value s word ≡ word_value s x (net_value s index)) b5 b3 f53 word_is;
     stored = stored;
@@ -110,10 +111,12 @@ module _ (b0 b1 b2 b3 b4 b5 : Netlist) (width words x : ℕ) (index value word s
       adds_joined b5 b1 b0 (shape ∷ []) [] [] [] (adds_array b1 b2 b4 b5 shape x index stored made (Includes-trans b4 b3 b2 logic.includes f32) (wires_joined b4 b3 b2 logic.wires wired) reads_are put numbered reads_inside (inside_is b5 f52) (line_still b5 x words value word here_is)) counted
 
   -- what the word is made of
-  pub word_made : ((base : Holder → Bool) → All (IsMadeOf b3 base) (right_reads (Word x (atom.Net index))) → IsMadeOf b3 base (OfNet word)) → IsMadeOf b5 (is_buffer b5.enable (length b0.arrays) (length b0.arrays + 1)) (OfNet word)
-  word_made made_of =
+  pub word_made : IsWithin b5 (is_buffer b5.enable (length b0.arrays) (length b0.arrays + 1)) line_operators (OfNet word)
+  word_made =
       let first : ℕ = length b0.arrays in
       let base : Holder → Bool = is_buffer b5.enable first (first + 1) in
-      let index1 : IsMadeOf b1 (is_control b5.enable) (OfNet index) = subst (λ (e : Bool). IsMadeOf b1 (is_control e) (OfNet index)) (sym f51.enable) index_control in
-      let index3 : IsMadeOf b3 base (OfNet index) = made_wider b3 (is_control b5.enable) base (control_buffer b5.enable first (first + 1)) (made_more b3 b1 (is_control b5.enable) (Includes-trans b3 b2 b1 f32 f21) index1) in
-      made_more b5 b3 base f53 (made_of base (All-cons (IsMadeOf b3 base) (OfArray x) (OfNet index ∷ []) (by_itself (own_array b5.enable first x first_is)) (All-cons (IsMadeOf b3 base) (OfNet index) [] index3 (All-nil (IsMadeOf b3 base)))))
+      let index1 : IsWithin b1 (is_control b5.enable) line_operators (OfNet index) = subst (λ (e : Bool). IsWithin b1 (is_control e) line_operators (OfNet index)) (sym f51.enable) index_within in
+      let index3 : IsWithin b3 base line_operators (OfNet index) = within_wider b3 (is_control b5.enable) base (control_buffer b5.enable first (first + 1)) (within_more b3 b1 (is_control b5.enable) (Includes-trans b3 b2 b1 f32 f21) index1) in
+      within_more b5 b3 base f53
+      (within_wire b3 word (Word x (atom.Net index)) base line_operators word_read
+      (All-cons (IsWithin b3 base line_operators) (OfArray x) (OfNet index ∷ []) (by_itself (own_array b5.enable first x first_is)) (All-cons (IsWithin b3 base line_operators) (OfNet index) [] index3 (All-nil (IsWithin b3 base line_operators)))))

@@ -15,6 +15,7 @@ use Rattle.line_buffer.specs.Lines.{IsIndex, IsDelayLine}
 use Rattle.line_buffer.specs.Rings.{behind, AreRingTaps}
 use Rattle.line_buffer.specs.Streams.{IsPixel, BufferIsRight, HoldsPixels}
 use Rattle.line_buffer.specs.Places.{depth_of, ring_place, word_at}
+use Rattle.line_buffer.specs.Depths.{ring_operators}
 use Rattle.line_buffer.specs.Buffers.{IsBuffer, AreMadeOfBuffer}
 use Rattle.line_buffer.proofs.Rotations.{ring_goes_on, behind_is}
 use Rattle.net_build.proofs.Clocks.{now_on, number_off}
@@ -65,7 +66,7 @@ module _ (b : Netlist) (ages : List ℕ) (first : ℕ) (index value oldest : Net
     waits = λ m from before c s is ready held next goes age t positive deep. ap (λ (ws : List ℕ). slice_index ws ((t - age) % depth_of ages)) (line_waits b first (depth_of ages) value oldest turning m from before c s is held next goes);
   }
 
-  pub ring_made : AreMadeOfBuffer b first (first + 1) ages taps
+  pub ring_made : AreMadeOfBuffer b ring_operators first (first + 1) ages taps
   ring_made k age tap ea positive et = (are k age tap ea et).made positive
 
 -- with no age above 0 there is nothing to hold

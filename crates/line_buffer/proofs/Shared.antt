@@ -2,7 +2,7 @@
 use Rattle.std.proofs.Common.{◌≡◌, ℕ, ◌<◌, [], ◌∷◌, ◌++◌, sym, ap, subst, ◌∙◌}
 use Rattle.std.specs.Prelude.{All, length, slice_index_or}
 use Rattle.std.proofs.Math.Nat.{mod-one}
-use Rattle.std.proofs.lemmas.List.Elements.{All-get_or, All-nil, All-push, All-weaker}
+use Rattle.std.proofs.lemmas.List.Elements.{All-get_or, All-push, All-weaker}
 use Rattle.wiring.specs.declared.right.Atom.{Atom}
 use Rattle.wiring.specs.declared.right.Atom.TheVariants as atom
 use Rattle.wiring.specs.declared.right.Right.{Right}
@@ -10,19 +10,20 @@ use Rattle.wiring.specs.declared.right.Right.TheVariants.{Copy}
 use Rattle.wiring.specs.declared.netlist.Net.{Net}
 use Rattle.wiring.specs.Netlist.{Netlist}
 use Rattle.wiring.specs.Rights.{atom_value}
-use Rattle.wiring.specs.BufferBits.{right_reads}
 use Rattle.wiring.specs.Snapshot.{net_value}
 use Rattle.net_build.specs.Includes.{Includes}
-use Rattle.net_build.specs.Control.{IsMadeOf, is_control}
+use Rattle.net_build.specs.Control.{is_control}
+use Rattle.net_build.proofs.Depth.{within_constant}
 use Rattle.net_build.specs.Logic.{IsGate}
 use Rattle.net_build.specs.Counters.{clock_number}
 use Rattle.net_build.specs.declared.counters.Indices.{Indices}
 use Rattle.net_build.proofs.Grown.{net_more, width_more}
 use Rattle.line_buffer.specs.declared.sharing.Turns.{Turns}
 use Rattle.line_buffer.specs.Lines.{AreIndices}
+use Rattle.line_buffer.specs.Depths.{line_operators}
 use Rattle.line_buffer.specs.SharedCounters.{IsTurn, AreTurns}
 use Rattle.line_buffer.proofs.Turning.{index_more}
-use Rattle.line_buffer.proofs.Filling.{index_control_more}
+use Rattle.line_buffer.proofs.Depth.{index_within_more}
 use Rattle.line_buffer.proofs.BlockMade.{indices_more}
 
 pub turn_more : (b a : Netlist) (words : ℕ) (net : Net) → Includes b a → IsTurn a words net → IsTurn b words net
@@ -30,7 +31,7 @@ turn_more b a words net f is = record {
   there = net_more b a f net is.there;
   width = width_more b a f net is.there.declared ∙ is.width;
   counter = index_more b a words net f is.counter;
-  control = index_control_more b a net f is.control;
+  control = index_within_more b a line_operators net f is.control;
 }
 
 pub turns_more : (b a : Netlist) (turns : Turns) → Includes b a → AreTurns a turns → AreTurns b turns
@@ -63,7 +64,7 @@ zero_turn new old a net e g = record {
         ∙ ap (λ (x : Atom Net). atom_value (net_value s) x) e
         ∙ sym (mod-one (clock_number m before c));
   };
-  control = g.made_of (is_control new.enable) (subst (λ (x : Atom Net). All (IsMadeOf new (is_control new.enable)) (right_reads (let r : Right Net ℕ = Copy x in r))) (sym e) (All-nil (IsMadeOf new (is_control new.enable))));
+  control = g.within (is_control new.enable) line_operators (within_constant new (is_control new.enable) line_operators a (record { width = 1; value = 0 }) e);
 }
 
 -- a counter that is found in the list

@@ -1,6 +1,6 @@
 -- The taps of a ring, one after another.
-use Rattle.std.proofs.Common.{◌≡◌, ◌⊎◌, ℕ, zero, suc, ◌+◌, ◌-◌, ◌*◌, ◌%◌, ◌^◌, ◌<◌, ◌≤◌, ◌==◌, nat_lt, Bool, List, [], ◌∷◌, ◌++◌, length, Some, refl, sym, ap, subst, ◌∙◌, inl, inr, arith}
-use Rattle.std.specs.Prelude.{IsTrue, All, Contains, slice_get, unwrap_or, if◌then◌else◌}
+use Rattle.std.proofs.Common.{◌≡◌, ◌⊎◌, ℕ, zero, suc, ◌+◌, ◌-◌, ◌*◌, ◌%◌, ◌^◌, ◌<◌, ◌≤◌, ◌==◌, nat_lt, Bool, List, [], ◌∷◌, ◌++◌, length, Some, refl, sym, ap, subst, ◌∙◌, inl, inr, arith, lit≤}
+use Rattle.std.specs.Prelude.{IsTrue, Contains, slice_get, unwrap_or, if◌then◌else◌}
 use Rattle.std.proofs.Math.Nat.{mod-eq_of_lt}
 use Rattle.std.proofs.lemmas.Bool.{cases_lt}
 use Rattle.std.proofs.lemmas.Nat.{mod-mul-add}
@@ -15,7 +15,6 @@ use Rattle.wiring.specs.declared.netlist.Holder.{Holder}
 use Rattle.wiring.specs.declared.netlist.Holder.TheVariants.{OfNet, OfArray}
 use Rattle.wiring.specs.declared.netlist.Shape.{Shape}
 use Rattle.wiring.specs.declared.netlist.Update.{Update}
-use Rattle.wiring.specs.BufferBits.{right_reads}
 use Rattle.wiring.specs.Sizes.{IsWidth, IsConstant}
 use Rattle.wiring.specs.Netlist.{Netlist, net_width, depth}
 use Rattle.wiring.specs.Snapshot.{Contents, Snapshot, net_value, word_value, right_accesses, update_accesses}
@@ -24,19 +23,23 @@ use Rattle.net_build.specs.Includes.{Includes, InEach}
 use Rattle.net_build.specs.Draft.{IsNet, AddsWires, with_wire}
 use Rattle.net_build.specs.Runs.{IsClockOf, StaysInside}
 use Rattle.net_build.proofs.Runs.{clock_more}
-use Rattle.net_build.specs.Control.{IsMadeOf, by_itself, is_control, IsControl}
+use Rattle.net_build.specs.Control.{is_control}
+use Rattle.net_build.specs.Depth.{IsWithin, IsOver, by_itself}
 use Rattle.std.specs.Option.{option_map}
 use Rattle.line_buffer.proofs.LineMade.{control_buffer, own_array}
 use Rattle.wiring.specs.History.{was_reset}
 use Rattle.net_build.proofs.Parts.{Includes-refl, Includes-trans, at_Begins}
 use Rattle.net_build.proofs.Grown.{net_more, width_more}
-use Rattle.net_build.proofs.Control.{made_more, made_wider}
+use Rattle.net_build.proofs.Depth.{within_more, within_wider, within_deeper, within_wire}
 use Rattle.wiring.proofs.Search.{at_push}
 use Rattle.net_build.proofs.Stops.{inside_below}
 use Rattle.net_build.proofs.Standing.{still_wires}
 use Rattle.net_build.proofs.Reading.{reads_none, reads_joined, reads_weaker, none_reads, reads_word}
 use Rattle.net_build.proofs.Updating.{wires_none, wires_joined, but_wires}
 use Rattle.net_build.specs.Logic.{AddsLogic, Computes, IsGate}
+use Rattle.line_buffer.specs.Depths.{line_operators, ring_operators}
+use Rattle.line_buffer.specs.Fills.{IsWordAt}
+use Rattle.line_buffer.proofs.Depth.{index_within_more}
 use Rattle.line_buffer.specs.Rings.{behind, AddsTaps, IsRingTap, AreRingTaps, place_worth, IsRing}
 use Rattle.line_buffer.specs.Lines.{IsIndex, IsDelayLine}
 use Rattle.line_buffer.specs.Buffers.{AddsBuffer, ReadsInside, PutsInside, is_new, is_added, TakesAdded, IsAdded, is_buffer}
@@ -135,7 +138,7 @@ module _ (b0 b1 b2 b3 b4 : Netlist) (index low up down place : Net) (bits words 
 
 -- the word after the index
 module _ (b0 b1 b2 : Netlist) (x words age bits width : ℕ) (index place tap value : Net) (shape : Shape) (logic : AddsLogic b1 b0) (f2 : Includes b2 b1) (wired : AddsWires b2 b1) (some : 0 < age) (short : age < words) (fits : words - 1 < 2 ^ bits) (there : slice_get b0.arrays x ≡ Some shape) (deep : shape.depth ≡ words)
-    (counter : IsIndex b0 words index) (index_control : IsControl b0 (OfNet index)) (worth : Computes b1 b0 (index ∷ []) bits (λ s. place_worth words age bits (net_value s index)) place) (read : (b2 ≡ b1) ⊎ (b2 ≡ with_wire b1 (Word x (atom.Net place)))) (word_is : InEach b2 (λ m s. net_value s tap ≡ word_value s x (net_value s place))) where
+    (counter : IsIndex b0 words index) (index_within : IsWithin b0 (is_control b0.enable) line_operators (OfNet index)) (worth : Computes b1 b0 (index ∷ []) bits (λ s. place_worth words age bits (net_value s index)) place) (read : (b2 ≡ b1) ⊎ (b2 ≡ with_wire b1 (Word x (atom.Net place)))) (word_is : InEach b2 (λ m s. net_value s tap ≡ word_value s x (net_value s place))) where
   g20 : Includes b2 b0
   g20 = Includes-trans b2 b1 b0 f2 logic.includes
 
@@ -162,18 +165,19 @@ module _ (b0 b1 b2 : Netlist) (x words age bits width : ℕ) (index place tap va
       same : (y : ℕ) → IsTrue (y == y)
       same y = grind arith
 
-  pub behind_tap : IsNet b2 tap → net_width b2 tap ≡ net_width b2 value → ((base : Holder → Bool) → All (IsMadeOf b2 base) (right_reads (Word x (atom.Net place))) → IsMadeOf b2 base (OfNet tap)) → IsRingTap b2 x words index value age tap
-  behind_tap net wide made_of = record {
+  pub behind_tap : IsNet b2 tap → net_width b2 tap ≡ net_width b2 value → IsOver b1 b0 2 (index ∷ []) place → IsWordAt b2 x place tap → IsRingTap b2 x words index value age tap
+  behind_tap net wide over_index word_read = record {
     net = net;
     width = wide;
     now = λ e. absurd (omega (arith, e, some));
     word = λ positive m from before c s is since. word_is m s is.whole.includes is.at.snapshot.settled ∙ ap (word_value s x) (behind_here m from before c s is since);
     made = λ positive.
         let base : Holder → Bool = is_buffer b2.enable x (x + 1) in
-        let index0 : IsMadeOf b0 (is_control b2.enable) (OfNet index) = subst (λ (e : Bool). IsMadeOf b0 (is_control e) (OfNet index)) (sym g20.enable) index_control in
-        let place1 : IsMadeOf b1 (is_control b2.enable) (OfNet place) = worth.made_of (is_control b2.enable) (λ n c. one (λ (y : Net). IsMadeOf b0 (is_control b2.enable) (OfNet y)) n c index0) in
-        let place2 : IsMadeOf b2 base (OfNet place) = made_wider b2 (is_control b2.enable) base (control_buffer b2.enable x (x + 1)) (made_more b2 b1 (is_control b2.enable) f2 place1) in
-        made_of base (All-cons (IsMadeOf b2 base) (OfArray x) (OfNet place ∷ []) (by_itself (own_array b2.enable x x refl)) (All-cons (IsMadeOf b2 base) (OfNet place) [] place2 (All-nil (IsMadeOf b2 base))));
+        let index0 : IsWithin b0 (is_control b2.enable) line_operators (OfNet index) = subst (λ (e : Bool). IsWithin b0 (is_control e) line_operators (OfNet index)) (sym g20.enable) index_within in
+        let place1 : IsWithin b1 (is_control b2.enable) ring_operators (OfNet place) = over_index (is_control b2.enable) line_operators (λ n c. one (λ (y : Net). IsWithin b0 (is_control b2.enable) line_operators (OfNet y)) n c index0) in
+        let place2 : IsWithin b2 base ring_operators (OfNet place) = within_wider b2 (is_control b2.enable) base (control_buffer b2.enable x (x + 1)) (within_more b2 b1 (is_control b2.enable) f2 place1) in
+        within_wire b2 tap (Word x (atom.Net place)) base ring_operators word_read
+        (All-cons (IsWithin b2 base ring_operators) (OfArray x) (OfNet place ∷ []) (by_itself (own_array b2.enable x x refl)) (All-cons (IsWithin b2 base ring_operators) (OfNet place) [] place2 (All-nil (IsWithin b2 base ring_operators))));
   }
     where
       one : (P : Net → Type 0) (n : Net) → Contains (index ∷ []) n → P index → P n
@@ -186,7 +190,7 @@ ring_tap_more c b x words index value age tap f net is = record {
   width = width_more c b f tap is.net.declared ∙ is.width ∙ sym (width_more c b f value net.declared);
   now = is.now;
   word = λ positive m from before d s clock since. is.word positive m from before d s (clock_more c b m from before d s f clock) since;
-  made = λ positive. subst (λ (e : Bool). IsMadeOf c (is_buffer e x (x + 1)) (OfNet tap)) (sym f.enable) (made_more c b (is_buffer b.enable x (x + 1)) f (is.made positive));
+  made = λ positive. subst (λ (e : Bool). IsWithin c (is_buffer e x (x + 1)) ring_operators (OfNet tap)) (sym f.enable) (within_more c b (is_buffer b.enable x (x + 1)) f (is.made positive));
 }
 
 pub ring_more : (c b : Netlist) (line : DelayLine) (value : Net) (bits words : ℕ) → Includes c b → IsRing b line value bits words → IsRing c line value bits words
@@ -202,12 +206,12 @@ ring_more c b line value bits words f is = record {
   bits_wide = is.bits_wide;
   fits = is.fits;
   counter = index_more c b words line.index f is.counter;
-  control = subst (λ (e : Bool). IsMadeOf c (is_control e) (OfNet line.index)) (sym f.enable) (made_more c b (is_control b.enable) f is.control);
+  control = index_within_more c b line_operators line.index f is.control;
   oldest = ring_tap_more c b line.array words line.index value words line.word f is.value_net is.oldest;
 }
 
 -- the word of a turning is that of the oldest age
-pub oldest_is : (b : Netlist) (x words : ℕ) (index value word : Net) → IsNet b word → net_width b word ≡ net_width b value → IsDelayLine b x words value word → IsIndex b words index → 0 < words → IsMadeOf b (is_buffer b.enable x (x + 1)) (OfNet word) → IsRingTap b x words index value words word
+pub oldest_is : (b : Netlist) (x words : ℕ) (index value word : Net) → IsNet b word → net_width b word ≡ net_width b value → IsDelayLine b x words value word → IsIndex b words index → 0 < words → IsWithin b (is_buffer b.enable x (x + 1)) line_operators (OfNet word) → IsRingTap b x words index value words word
 oldest_is b x words index value word net wide turning counter some made = record {
   net = net;
   width = wide;
@@ -215,7 +219,7 @@ oldest_is b x words index value word net wide turning counter some made = record
   word = λ positive m from before c s is since.
       turning.gives m s is.whole.includes is.at.snapshot.settled
       ∙ ap (word_value s x) (turning.counter.counts m from before c s is since ∙ sym (counter.counts m from before c s is since) ∙ sym (ap (λ (t : Bool). if t then net_value s index else if nat_lt (net_value s index) words then net_value s index + (words - words) else net_value s index - words) (yes_eq words words refl)));
-  made = λ positive. made;
+  made = λ positive. within_deeper (lit≤ tt) made;
 }
 
 -- the taps of the first ages, and one more

@@ -19,7 +19,7 @@ use Rattle.net_build.proofs.Parts.{at_Begins, InEach-more}
 use Rattle.net_build.proofs.Stops.{inside_below}
 use Rattle.net_build.proofs.Fitting.{array_long}
 use Rattle.net_build.proofs.Runs.{AtEachEdge-more, InEachRun-more, clock_more, clock_contents, reset_shown}
-use Rattle.net_build.specs.Counters.{unless_held, Counts, IsMadeOfRegister, IsBehindReset, clock_number}
+use Rattle.net_build.specs.Counters.{unless_held, Counts, IsMadeOfRegister, clock_number}
 use Rattle.net_build.specs.Control.{is_control, IsControl}
 use Rattle.wiring.specs.declared.right.Right.TheVariants.{Word}
 use Rattle.wiring.specs.declared.netlist.Update.TheVariants.{Put}
@@ -51,9 +51,6 @@ index_counts b last words index some e is = subst (λ (n : ℕ). Counts b (λ t.
 
 pub register_control : (b : Netlist) (k : ℕ) (n : Net) → IsMadeOfRegister b k (OfNet n) → IsControl b (OfNet n)
 register_control b k n is = is (is_control b.enable) (λ m c. in_control b.enable k m c)
-
-pub index_control : (b : Netlist) (k : ℕ) (n : Net) → IsBehindReset b k n → IsControl b (OfNet n)
-index_control b k n is = register_control b k n is.made_of
 
 abbrev pub words_of : Contents → ℕ → List ℕ
 words_of c x = slice_index_or c.arrays x []

@@ -21,6 +21,7 @@ use Rattle.net_build.specs.Includes.{Includes}
 use Rattle.net_build.specs.Draft.{IsNet, UpdatedBut}
 use Rattle.net_build.specs.Runs.{IsClockOf, InEachRun, StaysInside, IsReady, StillBut}
 use Rattle.net_build.specs.Control.{IsMadeOf, is_control, AddsReads}
+use Rattle.net_build.specs.Depth.{IsWithin}
 use Rattle.line_buffer.specs.Added.{EachAdded}
 use Rattle.line_buffer.specs.Streams.{IsPixel, BufferIsRight}
 use Rattle.line_buffer.specs.Places.{Place, word_at, depth_of}
@@ -98,9 +99,9 @@ abbrev pub is_buffer : (enable : Bool) (first end : ℕ) → Holder → Bool
 is_buffer enable first end (OfNet n) = is_control enable (OfNet n)
 is_buffer enable first end (OfArray x) = nat_le first x && nat_lt x end
 
--- the taps of ages above 0 are made only of the buffer's own arrays, and of rst, en and registers
-abbrev pub AreMadeOfBuffer : Netlist → (first end : ℕ) → (ages : List ℕ) → (taps : List Net) → Type 0
-AreMadeOfBuffer b first end ages taps = (k age : ℕ) (tap : Net) → slice_get ages k ≡ Some age → 0 < age → slice_get taps k ≡ Some tap → IsMadeOf b (is_buffer b.enable first end) (OfNet tap)
+-- the taps of ages above 0 are made only of the buffer's own arrays, and of rst, en and registers, with at most this number of operators on each path of assigns
+abbrev pub AreMadeOfBuffer : Netlist → (most first end : ℕ) → (ages : List ℕ) → (taps : List Net) → Type 0
+AreMadeOfBuffer b most first end ages taps = (k age : ℕ) (tap : Net) → slice_get ages k ≡ Some age → 0 < age → slice_get taps k ≡ Some tap → IsWithin b (is_buffer b.enable first end) most (OfNet tap)
 
 -- In this run the net had these values in the counted clocks since the last reset: `v j` in that of number j.
 abbrev pub HadValues : (part m : Netlist) → Contents → Net → (v : ℕ → ℕ) → List Clock → Type 0

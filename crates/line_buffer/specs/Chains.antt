@@ -6,9 +6,11 @@ use Rattle.wiring.specs.declared.netlist.Holder.TheVariants.{OfNet, OfArray}
 use Rattle.wiring.specs.declared.netlist.Shape.{Shape}
 use Rattle.wiring.specs.Netlist.{Netlist, net_width}
 use Rattle.net_build.specs.Draft.{IsNet}
-use Rattle.net_build.specs.Control.{IsMadeOf, is_control}
+use Rattle.net_build.specs.Control.{is_control}
+use Rattle.net_build.specs.Depth.{IsWithin}
 use Rattle.line_buffer.specs.declared.chains.Tap.{Tap}
 use Rattle.line_buffer.specs.Places.{later, depth_of, chain_shapes, chain_place}
+use Rattle.line_buffer.specs.Depths.{line_operators}
 use Rattle.line_buffer.specs.Buffers.{AddsBuffer, IsBuffer, IsDelay}
 use Rattle.line_buffer.specs.Indices.{is_direct, AreReadAndPut}
 use Rattle.line_buffer.specs.Lines.{Delays}
@@ -30,9 +32,9 @@ abbrev pub is_short : (long : (words : ℕ) → Bool) → Netlist → (first end
 is_short long b first end (OfNet n) = is_control b.enable (OfNet n)
 is_short long b first end (OfArray x) = (nat_le first x && nat_lt x end) && is_direct long b x
 
--- the taps of ages above 0 are made only of these, so no path of assigns leads from the read of a long array to one
-abbrev pub AreMadeOfShort : (long : (words : ℕ) → Bool) → Netlist → (first end : ℕ) → (ages : List ℕ) → (taps : List Net) → Type 0
-AreMadeOfShort long b first end ages taps = (k age : ℕ) (tap : Net) → slice_get ages k ≡ Some age → 0 < age → slice_get taps k ≡ Some tap → IsMadeOf b (is_short long b first end) (OfNet tap)
+-- the taps of ages above 0 are made only of these, with at most this number of operators on each path of assigns, so no path leads from the read of a long array to one
+abbrev pub AreMadeOfShort : (long : (words : ℕ) → Bool) → Netlist → (most first end : ℕ) → (ages : List ℕ) → (taps : List Net) → Type 0
+AreMadeOfShort long b most first end ages taps = (k age : ℕ) (tap : Net) → slice_get ages k ≡ Some age → 0 < age → slice_get taps k ≡ Some tap → IsWithin b (is_short long b first end) most (OfNet tap)
 
 -- a segment of n words: an array is added, with a register that copies its word if it is long
 pub record IsSegment (new old : Netlist) (width words : ℕ) (long : (words : ℕ) → Bool) (from net : Net) : Type 0 where
@@ -41,7 +43,7 @@ pub record IsSegment (new old : Netlist) (width words : ℕ) (long : (words : �
   pub line : Delays new (is_direct long new) copies (length old.arrays) words from net
   pub wide : AreCopies long new copies ((record { width = width; depth = words }) ∷ [])
   pub once : AreReadAndPut long new old
-  pub made : IsMadeOf new (is_short long new (length old.arrays) (length old.arrays + 1)) (OfNet net)
+  pub made : IsWithin new (is_short long new (length old.arrays) (length old.arrays + 1)) line_operators (OfNet net)
 
 -- the tap of an age that is no less: the same net at the same age, and else that of a segment
 pub record IsStep (new old : Netlist) (width : ℕ) (long : (words : ℕ) → Bool) (from : Tap) (age : ℕ) (to : Tap) : Type 0 where
@@ -75,7 +77,7 @@ pub record IsChained (new old : Netlist) (width : ℕ) (long : (words : ℕ) →
   pub nets : (k : ℕ) (tap : Net) → slice_get taps k ≡ Some tap → IsNet new tap
   pub widths : (k : ℕ) (tap : Net) → slice_get taps k ≡ Some tap → net_width new tap ≡ width
   pub now : (k : ℕ) (tap : Net) → slice_get ages k ≡ Some 0 → slice_get taps k ≡ Some tap → tap ≡ value
-  pub made : AreMadeOfShort long new (length old.arrays) (length old.arrays + length (chain_shapes width ages)) ages taps
+  pub made : AreMadeOfShort long new line_operators (length old.arrays) (length old.arrays + length (chain_shapes width ages)) ages taps
   pub age_is : last.age ≡ depth_of ages
   pub net_is : last.net ≡ last_net value (later_taps ages taps)
   pub net : IsNet new last.net
@@ -89,5 +91,5 @@ pub record IsChain (new old : Netlist) (width : ℕ) (long : (words : ℕ) → B
   pub once : AreReadAndPut long new old
   pub buffer : IsBuffer new copies (chain_place (length old.arrays) ages) ages taps value
   pub delay : IsDelay new (chain_place (length old.arrays) ages) ages taps value
-  pub made : AreMadeOfShort long new (length old.arrays) (length old.arrays + length (chain_shapes width ages)) ages taps
+  pub made : AreMadeOfShort long new line_operators (length old.arrays) (length old.arrays + length (chain_shapes width ages)) ages taps
   pub fills : AreFilled new (is_direct long new) copies (length old.arrays) (length old.arrays + length (chain_shapes width ages)) value

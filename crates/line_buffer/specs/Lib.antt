@@ -2,6 +2,7 @@ pub mod Streams
 pub mod Places
 pub mod Indices
 pub mod Added
+pub mod Depths
 pub mod Fills
 pub mod Buffers
 pub mod Lines

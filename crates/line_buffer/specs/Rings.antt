@@ -10,9 +10,11 @@ use Rattle.wiring.specs.History.{was_reset}
 use Rattle.net_build.specs.Includes.{Includes}
 use Rattle.net_build.specs.Draft.{IsNet, AddsWires}
 use Rattle.net_build.specs.Runs.{InEachRun}
-use Rattle.net_build.specs.Control.{IsMadeOf, IsControl, AddsReads}
+use Rattle.net_build.specs.Control.{is_control, AddsReads}
+use Rattle.net_build.specs.Depth.{IsWithin}
 use Rattle.line_buffer.specs.declared.lines.DelayLine.{DelayLine}
 use Rattle.line_buffer.specs.Lines.{IsIndex}
+use Rattle.line_buffer.specs.Depths.{line_operators, ring_operators}
 use Rattle.line_buffer.specs.Added.{EachAdded}
 use Rattle.line_buffer.specs.Buffers.{ReadsInside, is_buffer}
 
@@ -30,7 +32,7 @@ pub record IsRingTap (b : Netlist) (first n : ℕ) (index value : Net) (age : �
   pub width : net_width b tap ≡ net_width b value
   pub now : age ≡ 0 → tap ≡ value
   pub word : 0 < age → InEachRun b (λ m before c s. IsTrue (was_reset (c ∷ before)) → net_value s tap ≡ word_value s first (behind n age (net_value s index)))
-  pub made : 0 < age → IsMadeOf b (is_buffer b.enable first (first + 1)) (OfNet tap)
+  pub made : 0 < age → IsWithin b (is_buffer b.enable first (first + 1)) ring_operators (OfNet tap)
 
 abbrev pub AreRingTaps : Netlist → (first n : ℕ) → (index value : Net) → (ages : List ℕ) → List Net → Type 0
 AreRingTaps b first n index value ages taps = (k age : ℕ) (tap : Net) → slice_get ages k ≡ Some age → slice_get taps k ≡ Some tap → IsRingTap b first n index value age tap
@@ -55,5 +57,5 @@ pub record IsRing (b : Netlist) (line : DelayLine) (value : Net) (bits words : �
   pub bits_wide : IsWidth bits
   pub fits : words - 1 < 2 ^ bits
   pub counter : IsIndex b words line.index
-  pub control : IsControl b (OfNet line.index)
+  pub control : IsWithin b (is_control b.enable) line_operators (OfNet line.index)
   pub oldest : IsRingTap b line.array words line.index value words line.word

@@ -8,6 +8,7 @@ ghost use Rattle.net_build.specs.Includes.{Includes};
 ghost use Rattle.net_build.specs.Draft.{IsNet};
 ghost use Rattle.line_buffer.specs.Places.{chain_shapes, chain_place};
 ghost use Rattle.line_buffer.specs.Fills.{AreFilled};
+ghost use Rattle.line_buffer.specs.Depths.{line_operators};
 ghost use Rattle.line_buffer.specs.Buffers.{CanBeBuffered, AddsBuffer, IsBuffer, IsDelay, AreMadeOfBuffer};
 ghost use Rattle.line_buffer.specs.Indices.{is_long, AreReadOnce};
 ghost use Rattle.line_buffer.specs.Chains.{IsSegment, IsStep, IsChain};
@@ -188,7 +189,7 @@ pub fn chain(
     ensures once { OnOk result (AreReadOnce b.new b.old) }
     ensures buffer { IfOk result (λ taps. IsBuffer b.new [] (chain_place (length b.old.arrays) image.entry.ages.now) image.entry.ages.now taps.items image.entry.net) }
     ensures delay { IfOk result (λ taps. IsDelay b.new (chain_place (length b.old.arrays) image.entry.ages.now) image.entry.ages.now taps.items image.entry.net) }
-    ensures made { IfOk result (λ taps. AreMadeOfBuffer b.new (length b.old.arrays)
+    ensures made { IfOk result (λ taps. AreMadeOfBuffer b.new line_operators (length b.old.arrays)
         (length b.old.arrays + length (chain_shapes image.entry.width image.entry.ages.now)) image.entry.ages.now taps.items) }
     ensures fills { OnOk result (AreFilled b.new (λ x. true) [] (length b.old.arrays)
         (length b.old.arrays + length (chain_shapes image.entry.width image.entry.ages.now)) image.entry.net) }

@@ -45,6 +45,6 @@ pub fn buffers_last_law()
         → IsNet a value → IsBuffer a copies place ages taps value → IsBuffer b copies place ages taps value }
     ensures fills { (b a : Netlist) (direct : ℕ → Bool) (copies : List ℕ) (first end : ℕ) (value : Net) → Includes b a
         → AreFilled a direct copies first end value → AreFilled b direct copies first end value }
-    ensures made { (b a : Netlist) (first end : ℕ) (ages : List ℕ) (taps : List Net) → Includes b a → AreMadeOfBuffer a first end ages taps
-        → AreMadeOfBuffer b first end ages taps }
+    ensures made { (b a : Netlist) (most first end : ℕ) (ages : List ℕ) (taps : List Net) → Includes b a → AreMadeOfBuffer a most first end ages taps
+        → AreMadeOfBuffer b most first end ages taps }
 {}

@@ -8,10 +8,12 @@ ghost use Rattle.wiring.specs.Snapshot.{net_value};
 ghost use Rattle.wiring.specs.Sizes.{IsWidth, IsDepth};
 ghost use Rattle.net_build.specs.Includes.{Includes};
 ghost use Rattle.net_build.specs.Draft.{IsNet};
+ghost use Rattle.net_build.specs.Depth.{IsOver};
 ghost use Rattle.net_build.specs.Logic.{AddsLogic, Computes};
 ghost use Rattle.line_buffer.specs.Places.{depth_of, ring_shapes, ring_place};
 ghost use Rattle.line_buffer.specs.Rings.{place_worth, IsRing, AddsTaps, IsRingTap, AreRingTaps};
 ghost use Rattle.line_buffer.specs.Fills.{AreFilled};
+ghost use Rattle.line_buffer.specs.Depths.{ring_operators};
 ghost use Rattle.line_buffer.specs.SharedCounters.{AreTurns};
 ghost use Rattle.line_buffer.specs.Buffers.{CanBeBuffered, AddsBuffer, IsBuffer, IsDelay, AreMadeOfBuffer};
 
@@ -39,6 +41,7 @@ fn index_behind(
     requires short { age < words }
     ensures logic { AddsLogic b.new b.old }
     ensures net { IfOk result (Computes b.new b.old (index ∷ []) bits (λ s. place_worth words age bits (net_value s index))) }
+    ensures depth { IfOk result (IsOver b.new b.old 2 (index ∷ [])) }
 {
     let low = gate(
         b,
@@ -160,7 +163,7 @@ fn ring_array(
     ensures turns { OnOk result (AreTurns b.new turns.new) }
     ensures adds { OnOk result (AddsBuffer b.new b.old (ring_shapes image.entry.width image.entry.ages.now) []) }
     ensures buffer { IfOk result (λ taps. IsBuffer b.new [] (ring_place (length b.old.arrays) image.entry.ages.now) image.entry.ages.now taps.items image.entry.net) }
-    ensures made { IfOk result (λ taps. AreMadeOfBuffer b.new (length b.old.arrays)
+    ensures made { IfOk result (λ taps. AreMadeOfBuffer b.new ring_operators (length b.old.arrays)
         (length b.old.arrays + length (ring_shapes image.entry.width image.entry.ages.now)) image.entry.ages.now taps.items) }
     ensures fills { OnOk result (AreFilled b.new (λ x. true) [] (length b.old.arrays)
         (length b.old.arrays + length (ring_shapes image.entry.width image.entry.ages.now)) image.entry.net) }
@@ -194,7 +197,7 @@ pub fn ring(
     ensures adds { OnOk result (AddsBuffer b.new b.old (ring_shapes image.entry.width image.entry.ages.now) []) }
     ensures buffer { IfOk result (λ taps. IsBuffer b.new [] (ring_place (length b.old.arrays) image.entry.ages.now) image.entry.ages.now taps.items image.entry.net) }
     ensures delay { IfOk result (λ taps. IsDelay b.new (ring_place (length b.old.arrays) image.entry.ages.now) image.entry.ages.now taps.items image.entry.net) }
-    ensures made { IfOk result (λ taps. AreMadeOfBuffer b.new (length b.old.arrays)
+    ensures made { IfOk result (λ taps. AreMadeOfBuffer b.new ring_operators (length b.old.arrays)
         (length b.old.arrays + length (ring_shapes image.entry.width image.entry.ages.now)) image.entry.ages.now taps.items) }
     ensures fills { OnOk result (AreFilled b.new (λ x. true) [] (length b.old.arrays)
         (length b.old.arrays + length (ring_shapes image.entry.width image.entry.ages.now)) image.entry.net) }

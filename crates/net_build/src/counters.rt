@@ -11,7 +11,8 @@ ghost use Rattle.net_build.specs.Includes.{Includes};
 ghost use Rattle.net_build.specs.Draft.{IsNet};
 ghost use Rattle.wiring.specs.declared.netlist.Holder.TheVariants.{OfNet};
 ghost use Rattle.net_build.specs.Runs.{StaysBelow};
-ghost use Rattle.net_build.specs.Control.{IsControl};
+ghost use Rattle.net_build.specs.Control.{is_control, IsControl};
+ghost use Rattle.net_build.specs.Depth.{IsWithin, IsOver};
 ghost use Rattle.net_build.specs.Logic.{AddsLogic, Computes};
 ghost use Rattle.net_build.specs.Counters.{after, reached, control_nets, unless_held, taken, loaded, IsLoaded, Counts, IsBehindReset, AddsRegister, AddsControl, Starts, IsIndexNet, Cycles};
 
@@ -170,6 +171,7 @@ fn registered(
     ensures logic { AddsLogic b.new b.old }
     ensures index { IfOk result (λ c. Computes b.new b.old (control_nets b.old.enable ++ register ∷ [])
         bits (λ s. if net_value s reset_net == 1 then 0 else net_value s register) c.index) }
+    ensures depth { IfOk result (λ c. IsOver b.new b.old 1 (control_nets b.old.enable ++ register ∷ []) c.index) }
     ensures next { IfOk result (λ c. Computes b.new b.old (control_nets b.old.enable ++ register ∷ []) bits
         (λ s. taken b.old.enable 0 (net_value s c.index) (after wraps last (net_value s c.index)) s) c.next) }
 {
@@ -191,6 +193,7 @@ fn counter_of(b: &mut Builder, last: u64, wraps: bool) -> Result<Net, OutOfMemor
     ensures width { IfOk result (λ n. net_width b.new n ≡ bit_count last) }
     ensures counts { IfOk result (Counts b.new (reached wraps last)) }
     ensures below { IfOk result (StaysBelow b.new (suc last)) }
+    ensures depth { IfOk result (λ n. IsWithin b.new (is_control b.new.enable) 1 (OfNet n)) }
 {
     let bits = bits_for(last);
     let register = b.reg(bits)?;
@@ -199,7 +202,7 @@ fn counter_of(b: &mut Builder, last: u64, wraps: bool) -> Result<Net, OutOfMemor
     Ok(values.index)
 }
 
-/// A net that counts clocks from 0 to `last`, and then from 0 again: the number of the counted clocks since a reset, modulo `last` and one. It is 0 in a reset clock, and does not change in held clocks. It has one register.
+/// A net that counts clocks from 0 to `last`, and then from 0 again: the number of the counted clocks since a reset, modulo `last` and one. It is 0 in a reset clock, and does not change in held clocks. It has one register, and one operator.
 pub fn counter(b: &mut Builder, last: u64) -> Result<Net, OutOfMemory>
     ensures includes { Includes b.new b.old }
     ensures adds { OnOk result (AddsRegister b.new b.old (bit_count last)) }
@@ -207,6 +210,7 @@ pub fn counter(b: &mut Builder, last: u64) -> Result<Net, OutOfMemory>
     ensures width { IfOk result (λ n. net_width b.new n ≡ bit_count last) }
     ensures counts { IfOk result (Counts b.new (λ t. t % suc last)) }
     ensures below { IfOk result (StaysBelow b.new (suc last)) }
+    ensures depth { IfOk result (λ n. IsWithin b.new (is_control b.new.enable) 1 (OfNet n)) }
 {
     let net = counter_of(b, last, true)?;
     Ok(net)
@@ -220,6 +224,7 @@ pub fn counter_up_to(b: &mut Builder, last: u64) -> Result<Net, OutOfMemory>
     ensures width { IfOk result (λ n. net_width b.new n ≡ bit_count last) }
     ensures counts { IfOk result (Counts b.new (λ t. min t last)) }
     ensures below { IfOk result (StaysBelow b.new (suc last)) }
+    ensures depth { IfOk result (λ n. IsWithin b.new (is_control b.new.enable) 1 (OfNet n)) }
 {
     let net = counter_of(b, last, false)?;
     Ok(net)

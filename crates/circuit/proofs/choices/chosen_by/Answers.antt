@@ -1,6 +1,7 @@
 use Rattle.wiring.specs.declared.right.Atom.TheVariants as atom
 use Rattle.net_build.proofs.Operands.{net_operand, choose_operation}
 use Rattle.circuit.proofs.Choosing.{choice_operand, chosen_gate}
+use Rattle.circuit.proofs.Depths.{chosen_over}
 use Rattle.circuit.proofs.choices.chosen_by.Goals as goal
 
 pub gate-requires-clause-operation : goal.gate-requires-clause-operation
@@ -12,3 +13,6 @@ gate-requires-clause-operation c =
 pub returns-clause-net : goal.returns-clause-net
 returns-clause-net c =
     chosen_gate c.gate.new.b c.args.b.now c.args.test c.args.tap c.args.before c.args.bits c.atom_of-rest.result c.in_ok-net.net c.in_ok-net.ensures.logic.includes c.requires.test c.requires.one_bit c.requires.tap c.requires.tap_width c.requires.before c.requires.before_width c.requires.bits c.atom_of-rest.ensures c.in_ok-net.ensures.gate
+
+pub returns-clause-levels : goal.returns-clause-levels
+returns-clause-levels c = chosen_over c.gate.new.b c.args.b.now c.args.test c.args.tap c.args.before c.args.bits c.atom_of-rest.result c.in_ok-net.net c.in_ok-net.ensures.logic.includes c.atom_of-rest.ensures c.in_ok-net.ensures.gate

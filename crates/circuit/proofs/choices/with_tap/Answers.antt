@@ -10,6 +10,7 @@ use Rattle.net_build.proofs.Grown.{net_more, width_more}
 use Rattle.circuit.specs.Taps.{size_in}
 use Rattle.circuit.specs.Reads.{chosen_by, choice_nets}
 use Rattle.circuit.specs.Leaves.{leaf_at}
+use Rattle.circuit.specs.Depths.{MayMean}
 use Rattle.edge_select.proofs.Framed.{tests_more}
 use Rattle.circuit.proofs.Placing.{tests_none, tests_logic, columns_below, rows_below}
 use Rattle.circuit.proofs.Choosing.{choice_kept, choice_taken, choice_tested}
@@ -19,6 +20,9 @@ use Rattle.circuit.proofs.choices.with_tap.Goals as goal
 -- a fact of offsets that are stored and read back
 told : (P : (x y : ℤ) → Type 0) (x y : ℤ) → FitsSigned w32 x → FitsSigned w32 y → P (to_z w32 (of_z w32 x)) (to_z w32 (of_z w32 y)) → P x y
 told P x y fx fy h = subst (λ (v : ℤ). P x v) (to_z-of_z w32 y fy) (subst (λ (u : ℤ). P u (to_z w32 (of_z w32 y))) (to_z-of_z w32 x fx) h)
+
+untold : (P : (x y : ℤ) → Type 0) (x y : ℤ) → FitsSigned w32 x → FitsSigned w32 y → P x y → P (to_z w32 (of_z w32 x)) (to_z w32 (of_z w32 y))
+untold P x y fx fy h = subst (λ (v : ℤ). P (to_z w32 (of_z w32 x)) v) (sym (to_z-of_z w32 y fy)) (subst (λ (u : ℤ). P u y) (sym (to_z-of_z w32 x fx)) h)
 
 pub tap_of-tap-requires-clause-read : goal.tap_of-tap-requires-clause-read
 tap_of-tap-requires-clause-read c =
@@ -111,10 +115,20 @@ returns-in_ok-net-in-Sometimes-clause-tests c = tests_more c.chosen_by.new.b c.t
 pub returns-in_ok-net-in-Sometimes-clause-choice : goal.returns-in_ok-net-in-Sometimes-clause-choice
 returns-in_ok-net-in-Sometimes-clause-choice c first reads inc before =
     let r = c.args.reader.now in
+    let plan = r.plan.now in
+    let across : FitsSigned w32 c.args.read.dx = search rules in
+    let down : FitsSigned w32 c.args.read.dy = search rules in
+    let some : (MayMean (size_in plan) (leaf_at c.args.read.g c.args.steps.now) c.args.read → ⊥) → ⊥ = λ no.
+    let none : NonePass c.columns.result c.rows.result (LeadBy (record { width = c.columns.result; height = c.rows.result }) c.args.steps.now c.args.read.dx c.args.read.dy) =
+    subst (λ (w : ℕ). NonePass w c.rows.result (LeadBy (record { width = w; height = c.rows.result }) c.args.steps.now c.args.read.dx c.args.read.dy)) (sym c.columns.ensures)
+    (subst (λ (h : ℕ). NonePass plan.system.stencils.width h (LeadBy (record { width = plan.system.stencils.width; height = h }) c.args.steps.now c.args.read.dx c.args.read.dy)) (sym c.rows.ensures) (λ x y wide high led. no (refl, (x, y, wide, high, led)))) in
+    let never = c.passing.ensures.never.1 (untold (λ (x y : ℤ). NonePass c.columns.result c.rows.result (LeadBy (record { width = c.columns.result; height = c.rows.result }) c.args.steps.now x y)) c.args.read.dx c.args.read.dy across down none) in
+    absurd (let e : ⊥ = cc in e)
+    in
     let own = own_read c.args.b.now r.ir.now r.plan.now r.taps.now r.image c.args.read c.law.ensures c.requires.reading c.requires.read in
     let tap = c.tap_of-tap.result in
     let test = c.in_ok-test-in-Sometimes.test in
     let net = c.in_ok-net-in-Sometimes.net in
     let one = subst (λ (w : ℕ). Computes c.chosen_by.new.b c.test_at.new.b (test ∷ (tap ∷ choice_nets c.args.before)) w (chosen_by test tap c.args.before) net) (c.width.ensures ∙ own.bits) c.in_ok-net-in-Sometimes.ensures.net in
-    choice_tested c.chosen_by.new.b c.test_at.new.b c.args.b.now first r.plan.now r.taps.now r.image reads c.args.read (leaf_at c.args.read.g c.args.steps.now) _ c.args.before test tap net refl c.tap_of-tap.ensures
-    c.in_ok-net-in-Sometimes.ensures.logic.includes c.in_ok-test-in-Sometimes.ensures.adds.includes inc c.in_ok-test-in-Sometimes.ensures.test one before
+    choice_tested c.chosen_by.new.b c.test_at.new.b c.args.b.now first r.plan.now r.taps.now r.image reads c.args.read (leaf_at c.args.read.g c.args.steps.now) _ c.args.before test tap net refl some c.tap_of-tap.ensures
+    c.in_ok-net-in-Sometimes.ensures.logic.includes c.in_ok-test-in-Sometimes.ensures.adds.includes inc c.in_ok-test-in-Sometimes.ensures.test one c.in_ok-net-in-Sometimes.ensures.levels before

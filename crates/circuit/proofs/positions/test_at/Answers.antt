@@ -22,4 +22,4 @@ returns-clause-test c =
     let own = size_of c.args.tests.now.size in
     let passes : ℤ → ℤ → Type 0 = λ x y. IsFrameTest c.at.new.b own c.delay-delay.result (LeadBy own c.args.steps.now x y) c.in_ok-net.net in
     let test = subst (λ (y : ℤ). passes c.args.read.dx y) (to_z-of_z w32 c.args.read.dy down) (subst (λ (x : ℤ). passes x (to_z w32 (of_z w32 c.args.read.dy))) (to_z-of_z w32 c.args.read.dx across) c.in_ok-net.ensures.test) in
-    pixel_test c.at.new.b c.args.b.now c.args.reader.now.plan.now c.args.reader.now.image c.delay-delay.result c.args.tests.now (λ (z : Size). LeadBy z c.args.steps.now c.args.read.dx c.args.read.dy) c.in_ok-net.net c.delay-delay.ensures c.requires.tests test
+    pixel_test c.at.new.b c.args.b.now c.args.reader.now.plan.now c.args.reader.now.image c.delay-delay.result c.args.tests.now (λ (z : Size). LeadBy z c.args.steps.now c.args.read.dx c.args.read.dy) c.in_ok-net.net c.delay-delay.ensures c.requires.tests test c.in_ok-net.ensures.depth

@@ -11,4 +11,4 @@ pub returns-clause-tests : goal.returns-clause-tests
 returns-clause-tests c = their_tests c.leads.new.b c.args.b.now (size_in c.args.plan.now) c.leads.new.self c.args.tests.now c.requires.tests c.in_ok-net.ensures.tests
 
 pub returns-clause-test : goal.returns-clause-test
-returns-clause-test c = pixel_test c.leads.new.b c.args.b.now c.args.plan.now c.args.f c.delay-delay.result c.args.tests.now (λ (z : Size). LeadOn z c.args.steps.now) c.in_ok-net.net c.delay-delay.ensures c.requires.tests c.in_ok-net.ensures.test
+returns-clause-test c = pixel_test c.leads.new.b c.args.b.now c.args.plan.now c.args.f c.delay-delay.result c.args.tests.now (λ (z : Size). LeadOn z c.args.steps.now) c.in_ok-net.net c.delay-delay.ensures c.requires.tests c.in_ok-net.ensures.test c.in_ok-net.ensures.depth

@@ -21,7 +21,7 @@ returns-in_ok-net-in-Always-clause-test c =
     let here = subst (λ (w : ℕ). AllPass w plan.system.stencils.height (LeadOn (record { width = w; height = plan.system.stencils.height }) c.args.steps.now)) c.columns.ensures
     (subst (λ (h : ℕ). AllPass c.columns.result h (LeadOn (record { width = c.columns.result; height = h }) c.args.steps.now)) c.rows.ensures all)
     in
-    always_test c.constant_test.new.b c.args.b.now plan c.args.f _ c.in_ok-net-in-Always.net c.law.ensures c.in_ok-net-in-Always.ensures.test here
+    always_test c.constant_test.new.b c.args.b.now plan c.args.f _ c.in_ok-net-in-Always.net c.law.ensures c.in_ok-net-in-Always.ensures.test c.in_ok-net-in-Always.ensures.depth here
 
 pub returns-in_ok-net-in-Never-clause-adds : goal.returns-in_ok-net-in-Never-clause-adds
 returns-in_ok-net-in-Never-clause-adds c = beside_logic c.constant_test-in-Never.new.b c.args.b.now c.args.tests.now.counters c.in_ok-net-in-Never.ensures.logic
@@ -36,4 +36,4 @@ returns-in_ok-net-in-Never-clause-test c =
     let here = subst (λ (w : ℕ). NonePass w plan.system.stencils.height (LeadOn (record { width = w; height = plan.system.stencils.height }) c.args.steps.now)) c.columns.ensures
     (subst (λ (h : ℕ). NonePass c.columns.result h (LeadOn (record { width = c.columns.result; height = h }) c.args.steps.now)) c.rows.ensures all)
     in
-    never_test c.constant_test-in-Never.new.b c.args.b.now plan c.args.f _ c.in_ok-net-in-Never.net c.law.ensures c.in_ok-net-in-Never.ensures.test here
+    never_test c.constant_test-in-Never.new.b c.args.b.now plan c.args.f _ c.in_ok-net-in-Never.net c.law.ensures c.in_ok-net-in-Never.ensures.test c.in_ok-net-in-Never.ensures.depth here

@@ -1,4 +1,5 @@
-use Rattle.std.proofs.Common.{IfOk, subst, sym}
+use Rattle.std.proofs.Common.{IfOk, ap, subst, sym}
+use Rattle.datapath.specs.Levels.{binary_levels}
 use Rattle.datapath.specs.Operands.{Carries, worth}
 use Rattle.dk_base.specs.declared.operator.Binary.{Binary}
 use Rattle.dk_base.specs.Operators.{binary_result, binary_value}
@@ -48,4 +49,4 @@ pub returns-in-Max-clause-value : goal.returns-in-Max-clause-value
 returns-in-Max-clause-value c = subst (λ (o : Binary). IfOk c.maximum.result (λ r. Carries c.maximum.new.b r (binary_result o c.args.x.ty c.args.y.ty) (λ s. binary_value o (worth s c.args.x) (worth s c.args.y)))) (sym c.in-Max.is) c.maximum.ensures.value
 
 pub returns-in-Greater-clause-made : goal.returns-in-Greater-clause-made
-returns-in-Greater-clause-made c = turned_ok _ _ _ _ c.is_less-in-Greater.ensures.made
+returns-in-Greater-clause-made c = turned_ok _ _ _ _ _ _ (ap binary_levels c.in-Greater.is) c.is_less-in-Greater.ensures.made

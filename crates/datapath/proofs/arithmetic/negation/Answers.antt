@@ -17,7 +17,7 @@ pub returns-clause-grows : goal.returns-clause-grows
 returns-clause-grows c = then_grows c.resized.ensures.grows c.subtract.ensures.grows
 
 pub returns-clause-made : goal.returns-clause-made
-returns-clause-made c = then_two c.in_ok-atom.ensures.made (nothing_over (c.constant.ensures.made _)) (over_later c.subtract.ensures.grows.includes c.in_ok-right.ensures.made)
+returns-clause-made c = then_two 0 c.in_ok-atom.ensures.made (nothing_over (c.constant.ensures.made _)) (over_later c.subtract.ensures.grows.includes c.in_ok-right.ensures.made)
 
 pub returns-clause-folds : goal.returns-clause-folds
 returns-clause-folds c h =

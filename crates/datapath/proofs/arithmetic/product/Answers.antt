@@ -24,7 +24,7 @@ pub returns-clause-grows : goal.returns-clause-grows
 returns-clause-grows c = then_grows (then_grows c.resized.ensures.grows c.resized-2.ensures.grows) c.multiply.ensures.grows
 
 pub returns-clause-made : goal.returns-clause-made
-returns-clause-made c = two_over c.resized-2.ensures.grows.includes c.multiply.ensures.grows.includes c.in_ok-left.ensures.made c.in_ok-right.ensures.made c.in_ok-atom.ensures.made
+returns-clause-made c = two_over 0 c.resized-2.ensures.grows.includes c.multiply.ensures.grows.includes c.in_ok-left.ensures.made c.in_ok-right.ensures.made c.in_ok-atom.ensures.made
 
 pub returns-clause-folds : goal.returns-clause-folds
 returns-clause-folds c h =

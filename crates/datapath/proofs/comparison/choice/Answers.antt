@@ -24,7 +24,7 @@ pub choose-requires-clause-c : goal.choose-requires-clause-c
 choose-requires-clause-c c = width_later _ _ _ _ (then_grows c.resized.ensures.grows c.resized-2.ensures.grows) (has_width_of (sym (ap width_of c.requires.bit)) c.requires.condition.width)
 
 pub returns-clause-made : goal.returns-clause-made
-returns-clause-made c = three_over c.resized-2.ensures.grows.includes c.choose.ensures.grows.includes c.in_ok-left.ensures.made c.in_ok-right.ensures.made c.in_ok-atom.ensures.made
+returns-clause-made c = three_over 0 c.resized-2.ensures.grows.includes c.choose.ensures.grows.includes c.in_ok-left.ensures.made c.in_ok-right.ensures.made c.in_ok-atom.ensures.made
 
 pub returns-clause-folds : goal.returns-clause-folds
 returns-clause-folds c h =

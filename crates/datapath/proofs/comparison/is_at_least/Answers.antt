@@ -14,7 +14,7 @@ pub returns-clause-grows : goal.returns-clause-grows
 returns-clause-grows c = then_grows c.is_less.ensures.grows c.bit_complement.ensures.grows
 
 pub returns-clause-made : goal.returns-clause-made
-returns-clause-made c = then_one c.in_ok-negation.ensures.made (over_later c.bit_complement.ensures.grows.includes c.in_ok-opposite.ensures.made)
+returns-clause-made c = then_one 2 c.in_ok-negation.ensures.made (over_later c.bit_complement.ensures.grows.includes c.in_ok-opposite.ensures.made)
 
 pub returns-clause-folds : goal.returns-clause-folds
 returns-clause-folds c h =

@@ -26,7 +26,7 @@ pub less-requires-clause-x : goal.less-requires-clause-x
 less-requires-clause-x c = width_later _ _ _ _ c.offset-2.ensures.grows (has_width_of c.width.ensures c.in_ok-left.ensures.word.width)
 
 pub returns-clause-made : goal.returns-clause-made
-returns-clause-made c = two_over c.offset-2.ensures.grows.includes c.less.ensures.grows.includes c.in_ok-left.ensures.made c.in_ok-right.ensures.made c.in_ok-atom.ensures.made
+returns-clause-made c = two_over 1 c.offset-2.ensures.grows.includes c.less.ensures.grows.includes c.in_ok-left.ensures.made c.in_ok-right.ensures.made c.in_ok-atom.ensures.made
 
 pub returns-clause-folds : goal.returns-clause-folds
 returns-clause-folds c h =

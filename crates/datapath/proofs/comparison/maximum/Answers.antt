@@ -14,7 +14,7 @@ pub returns-clause-value : goal.returns-clause-value
 returns-clause-value c = greater_carries _ _ c.in_ok-below.below c.args.x c.args.y _ _ c.choice.ensures.grows.includes c.in_ok-below.ensures.value c.in_ok-greater.ensures.value
 
 pub returns-clause-made : goal.returns-clause-made
-returns-clause-made c = then_three c.in_ok-greater.ensures.made (over_later c.choice.ensures.grows.includes (then_two c.in_ok-below.ensures.made second_over first_over)) first_over second_over
+returns-clause-made c = then_three 2 c.in_ok-greater.ensures.made (over_later c.choice.ensures.grows.includes (then_two 0 c.in_ok-below.ensures.made second_over first_over)) first_over second_over
 
 pub returns-clause-folds : goal.returns-clause-folds
 returns-clause-folds c h =

@@ -16,7 +16,7 @@ pub returns-clause-value : goal.returns-clause-value
 returns-clause-value c = same_carries _ _ _ _ _ (common_turned c.args.x.ty c.args.y.ty) (lesser_carries _ _ c.in_ok-above.above c.args.x c.args.y _ _ c.choice.ensures.grows.includes c.in_ok-above.ensures.value c.in_ok-lesser.ensures.value)
 
 pub returns-clause-made : goal.returns-clause-made
-returns-clause-made c = then_three c.in_ok-lesser.ensures.made (over_later c.choice.ensures.grows.includes (then_two c.in_ok-above.ensures.made second_over first_over)) second_over first_over
+returns-clause-made c = then_three 2 c.in_ok-lesser.ensures.made (over_later c.choice.ensures.grows.includes (then_two 0 c.in_ok-above.ensures.made second_over first_over)) second_over first_over
 
 pub returns-clause-folds : goal.returns-clause-folds
 returns-clause-folds c h =

@@ -1,8 +1,8 @@
 use Rattle.datapath.proofs.Growth.{then_grows}
-use Rattle.std.proofs.Common.{ap, ◌∙◌}
+use Rattle.std.proofs.Common.{ap, ◌∙◌, arith}
 use Rattle.datapath.specs.Nets.{bits_of}
 use Rattle.datapath.proofs.Compared.{offset_unsigned_word, offset_signed_word}
-use Rattle.datapath.proofs.Over.{then_two, nothing_over, over_later}
+use Rattle.datapath.proofs.Over.{over_deeper, then_two, nothing_over, over_later}
 use Rattle.datapath.proofs.comparison.offset.Goals as goal
 
 pub returns-in_ok-atom-in-Unsigned-clause-word : goal.returns-in_ok-atom-in-Unsigned-clause-word
@@ -22,10 +22,13 @@ pub returns-in_ok-atom-in-Signed-clause-grows : goal.returns-in_ok-atom-in-Signe
 returns-in_ok-atom-in-Signed-clause-grows c = then_grows c.resized-in-Signed.ensures.grows c.add.ensures.grows
 
 pub returns-in_ok-atom-in-Signed-clause-made : goal.returns-in_ok-atom-in-Signed-clause-made
-returns-in_ok-atom-in-Signed-clause-made c = then_two c.in_ok-atom-in-Signed.ensures.made (over_later c.add.ensures.grows.includes c.in_ok-bits-in-Signed.ensures.made) (nothing_over (c.top_bit-half.ensures.made _))
+returns-in_ok-atom-in-Signed-clause-made c = then_two 0 c.in_ok-atom-in-Signed.ensures.made (over_later c.add.ensures.grows.includes c.in_ok-bits-in-Signed.ensures.made) (nothing_over (c.top_bit-half.ensures.made _))
 
 pub returns-in_ok-atom-in-Signed-clause-folds : goal.returns-in_ok-atom-in-Signed-clause-folds
 returns-in_ok-atom-in-Signed-clause-folds c h =
     let bits = c.in_ok-bits-in-Signed.ensures.folds h in
     let all = c.in_ok-atom-in-Signed.ensures.folds (bits.0, (c.top_bit-half.ensures.known, tt)) in
     (all.0, all.1 ∙ bits.1)
+
+pub returns-in_ok-atom-in-Unsigned-clause-made : goal.returns-in_ok-atom-in-Unsigned-clause-made
+returns-in_ok-atom-in-Unsigned-clause-made c = over_deeper (omega arith) c.in_ok-atom-in-Unsigned.ensures.made

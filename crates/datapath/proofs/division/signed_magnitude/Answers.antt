@@ -14,7 +14,7 @@ pub returns-clause-grows : goal.returns-clause-grows
 returns-clause-grows c = then_grows c.part.ensures.grows c.turned.ensures.grows
 
 pub returns-clause-made : goal.returns-clause-made
-returns-clause-made c = then_two c.in_ok-atom.ensures.made (over_later c.turned.ensures.grows.includes c.in_ok-sign.ensures.made) itself_over
+returns-clause-made c = then_two 0 c.in_ok-atom.ensures.made (over_later c.turned.ensures.grows.includes c.in_ok-sign.ensures.made) itself_over
 
 pub returns-clause-folds : goal.returns-clause-folds
 returns-clause-folds c h =

@@ -21,7 +21,7 @@ pub choose-requires-clause-y : goal.choose-requires-clause-y
 choose-requires-clause-y c = width_later _ _ _ _ c.subtract.ensures.grows c.requires.x
 
 pub returns-clause-made : goal.returns-clause-made
-returns-clause-made c = then_three c.in_ok-atom.ensures.made first_over (over_later c.choose.ensures.grows.includes (then_two c.in_ok-negative.ensures.made (nothing_over (c.constant.ensures.made _)) second_over)) second_over
+returns-clause-made c = then_three 1 c.in_ok-atom.ensures.made first_over (over_later c.choose.ensures.grows.includes (then_two 0 c.in_ok-negative.ensures.made (nothing_over (c.constant.ensures.made _)) second_over)) second_over
 
 pub returns-clause-folds : goal.returns-clause-folds
 returns-clause-folds c h =

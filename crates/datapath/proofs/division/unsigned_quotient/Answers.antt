@@ -21,7 +21,7 @@ pub returns-then-by-greatest-clause-made : goal.returns-then-by-greatest-clause-
 returns-then-by-greatest-clause-made c = nothing_over (c.constant.ensures.made _)
 
 pub returns-clause-made : goal.returns-clause-made
-returns-clause-made c = then_two c.in_ok-atom.ensures.made itself_over (nothing_over (c.constant-2.ensures.made _))
+returns-clause-made c = then_two 0 c.in_ok-atom.ensures.made itself_over (nothing_over (c.constant-2.ensures.made _))
 
 pub returns-then-by-greatest-clause-folds : goal.returns-then-by-greatest-clause-folds
 returns-then-by-greatest-clause-folds c h = (c.constant.ensures.known, refl)

@@ -103,7 +103,7 @@ pub returns-in_ok-shifted-in-Shifted-clause-grows : goal.returns-in_ok-shifted-i
 returns-in_ok-shifted-in-Shifted-clause-grows t c = then_grows c.walk.ensures.grows c.shifted.ensures.grows
 
 pub returns-in_ok-shifted-in-Shifted-clause-walked : goal.returns-in_ok-shifted-in-Shifted-clause-walked
-returns-in_ok-shifted-in-Shifted-clause-walked t c = rw c.placed-in-Shifted.ensures (shifted_walked _ _ _ _ _ _ _ c.in_ok-x-in-Shifted.x _ _ _ _ _ _ _ (shifted_tree _ _ _ _ _ _ _ c.in-Shifted.is c.deref.ensures) c.shifted.ensures.grows.includes c.below_edge.ensures.read c.below_edge.ensures.bit c.in_ok-x-in-Shifted.ensures.walked c.in_ok-shifted-in-Shifted.ensures.value (c.in_ok-shifted-in-Shifted.ensures.made _ c.in_ok-x-in-Shifted.ensures.walked.made))
+returns-in_ok-shifted-in-Shifted-clause-walked t c = rw c.placed-in-Shifted.ensures (shifted_walked _ _ _ _ _ _ _ c.in_ok-x-in-Shifted.x _ _ _ _ _ _ _ (shifted_tree _ _ _ _ _ _ _ c.in-Shifted.is c.deref.ensures) c.shifted.ensures.grows.includes c.below_edge.ensures.read c.below_edge.ensures.bit c.in_ok-x-in-Shifted.ensures.walked c.in_ok-shifted-in-Shifted.ensures.value (c.in_ok-shifted-in-Shifted.ensures.made _ _ c.in_ok-x-in-Shifted.ensures.walked.made))
 
 pub returns-in_err-y-in-Binary-clause-grows : goal.returns-in_err-y-in-Binary-clause-grows
 returns-in_err-y-in-Binary-clause-grows t c = then_grows c.walk-in-Binary.ensures.grows c.walk-in-Binary-2.ensures.grows

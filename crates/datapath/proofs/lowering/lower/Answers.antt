@@ -1,9 +1,9 @@
-use Rattle.std.proofs.Common.{◌+◌, ◌≤◌, length, subst}
+use Rattle.std.proofs.Common.{◌+◌, ◌≤◌, length, subst, arith}
 use Rattle.wiring.specs.Netlist.{Netlist}
 use Rattle.datapath.proofs.Named.{named_carries}
 use Rattle.datapath.proofs.Gates.{leaves_have}
 use Rattle.datapath.proofs.Growth.{then_grows}
-use Rattle.datapath.proofs.ExpressionParts.{leaves_one}
+use Rattle.datapath.proofs.ExpressionParts.{leaves_one, leaves_clamp}
 use Rattle.datapath.proofs.Walked.{whole_part, leaves_as, part_as, walked_over}
 use Rattle.datapath.proofs.lowering.lower.Goals as goal
 
@@ -27,7 +27,7 @@ returns-clause-value c =
 pub returns-clause-made : goal.returns-clause-made
 returns-clause-made c =
     let walked = walked_over _ _ _ _ _ _ _ c.as_slice-reads.ensures.value c.as_slice-bits.ensures.value c.in_ok-x.ensures.walked in
-    leaves_one c.net_of.ensures.grows.includes c.in_ok-net.ensures.made walked.made
+    leaves_clamp (omega arith) (leaves_one c.net_of.ensures.grows.includes c.in_ok-net.ensures.made walked.made)
 
 pub returns-clause-constant : goal.returns-clause-constant
 returns-clause-constant c h =

@@ -1,7 +1,7 @@
-use Rattle.std.proofs.Common.{◌∙◌}
+use Rattle.std.proofs.Common.{◌∙◌, arith}
 use Rattle.datapath.proofs.Growth.{then_grows}
 use Rattle.datapath.proofs.Limits.{saturated_carries}
-use Rattle.datapath.proofs.Over.{then_two, itself_over, over_later}
+use Rattle.datapath.proofs.Over.{over_deeper, then_two, itself_over, over_later}
 use Rattle.datapath.proofs.saturation.saturated.Goals as goal
 
 pub returns-clause-value : goal.returns-clause-value
@@ -17,7 +17,7 @@ pub returns-clause-grows : goal.returns-clause-grows
 returns-clause-grows c = then_grows (then_grows c.resized.ensures.grows c.raised.ensures.grows) c.lowered.ensures.grows
 
 pub returns-clause-made : goal.returns-clause-made
-returns-clause-made c = then_two c.in_ok-atom.ensures.made itself_over (over_later c.lowered.ensures.grows.includes (then_two c.in_ok-low.ensures.made itself_over (over_later c.raised.ensures.grows.includes c.in_ok-bits.ensures.made)))
+returns-clause-made c = then_two 3 c.in_ok-atom.ensures.made.limited (over_deeper (omega arith) c.in_ok-atom.ensures.made.tested) (over_later c.lowered.ensures.grows.includes (then_two 0 c.in_ok-low.ensures.made itself_over (over_later c.raised.ensures.grows.includes c.in_ok-bits.ensures.made)))
 
 pub returns-clause-folds : goal.returns-clause-folds
 returns-clause-folds c h =

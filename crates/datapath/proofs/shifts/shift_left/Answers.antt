@@ -18,7 +18,7 @@ pub returns-then-by-eq0-clause-made : goal.returns-then-by-eq0-clause-made
 returns-then-by-eq0-clause-made c = itself_over
 
 pub returns-clause-made : goal.returns-clause-made
-returns-clause-made c = then_two c.in_ok-atom.ensures.made itself_over (nothing_over (c.constant.ensures.made _))
+returns-clause-made c = then_two 0 c.in_ok-atom.ensures.made itself_over (nothing_over (c.constant.ensures.made _))
 
 pub returns-then-by-eq0-clause-folds : goal.returns-then-by-eq0-clause-folds
 returns-then-by-eq0-clause-folds c h = (h.0, refl)

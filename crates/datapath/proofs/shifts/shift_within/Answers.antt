@@ -14,7 +14,7 @@ pub returns-clause-grows : goal.returns-clause-grows
 returns-clause-grows c = then_grows c.high_bits.ensures.grows c.resized.ensures.grows
 
 pub returns-clause-made : goal.returns-clause-made
-returns-clause-made c = then_one c.in_ok-atom.ensures.made (over_later c.resized.ensures.grows.includes c.in_ok-high.ensures.made)
+returns-clause-made c = then_one 0 c.in_ok-atom.ensures.made (over_later c.resized.ensures.grows.includes c.in_ok-high.ensures.made)
 
 pub returns-clause-folds : goal.returns-clause-folds
 returns-clause-folds c h =

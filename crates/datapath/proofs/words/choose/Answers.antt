@@ -2,7 +2,7 @@ use Rattle.std.proofs.Common.{refl}
 use Rattle.datapath.proofs.Made.{choose_is_operation, choose_made}
 use Rattle.datapath.proofs.Growth.{signal_of, grows_itself}
 use Rattle.datapath.proofs.Known.{not_none}
-use Rattle.datapath.proofs.Over.{choose_over}
+use Rattle.datapath.proofs.Over.{choose_over, middle_over, last_over}
 use Rattle.datapath.proofs.words.choose.Goals as goal
 
 pub atom-condition-requires : goal.atom-condition-requires
@@ -37,3 +37,9 @@ returns-in-Some-clause-folds c h = (h.1.1.0, refl)
 
 pub returns-clause-folds : goal.returns-clause-folds
 returns-clause-folds c h = absurd (not_none _ c.in-None.is (c.known.ensures.known h.0))
+
+pub returns-then-bit-eq1-clause-made : goal.returns-then-bit-eq1-clause-made
+returns-then-bit-eq1-clause-made c = middle_over
+
+pub returns-in-Some-clause-made : goal.returns-in-Some-clause-made
+returns-in-Some-clause-made c = last_over

@@ -6,4 +6,4 @@ pub returns-in-Net-clause-grows : goal.returns-in-Net-clause-grows
 returns-in-Net-clause-grows c = grows_itself _
 
 pub returns-in-Net-clause-made : goal.returns-in-Net-clause-made
-returns-in-Net-clause-made c = same_over _ _ _ c.in-Net.is
+returns-in-Net-clause-made c = same_over _ _ _ _ c.in-Net.is

@@ -24,7 +24,7 @@ pub returns-then-count-width-clause-made : goal.returns-then-count-width-clause-
 returns-then-count-width-clause-made c = itself_over
 
 pub returns-clause-made : goal.returns-clause-made
-returns-clause-made c = then_one c.in_ok-atom.ensures.made (over_later c.slice.ensures.grows.includes c.in_ok-whole.ensures.made)
+returns-clause-made c = then_one 0 c.in_ok-atom.ensures.made (over_later c.slice.ensures.grows.includes c.in_ok-whole.ensures.made)
 
 pub returns-in-Some-clause-grows : goal.returns-in-Some-clause-grows
 returns-in-Some-clause-grows c = grows_itself _

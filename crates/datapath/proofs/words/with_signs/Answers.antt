@@ -20,7 +20,7 @@ pub returns-clause-grows : goal.returns-clause-grows
 returns-clause-grows c = then_grows (then_grows c.part.ensures.grows c.repeat.ensures.grows) c.join.ensures.grows
 
 pub returns-clause-made : goal.returns-clause-made
-returns-clause-made c = then_two c.in_ok-atom.ensures.made (over_later c.join.ensures.grows.includes (then_one c.in_ok-signs.ensures.made (over_later c.repeat.ensures.grows.includes c.in_ok-sign.ensures.made))) itself_over
+returns-clause-made c = then_two 0 c.in_ok-atom.ensures.made (over_later c.join.ensures.grows.includes (then_one 0 c.in_ok-signs.ensures.made (over_later c.repeat.ensures.grows.includes c.in_ok-sign.ensures.made))) itself_over
 
 pub returns-clause-folds : goal.returns-clause-folds
 returns-clause-folds c h =

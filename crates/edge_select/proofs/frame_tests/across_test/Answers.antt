@@ -1,9 +1,11 @@
-use Rattle.std.proofs.Common.{ℕ, ◌%◌, ap, subst}
+use Rattle.std.proofs.Common.{[], ◌∷◌, ℕ, ◌%◌, ap, subst}
 use Rattle.dk_base.specs.FrameSizes.{size_of}
 use Rattle.edge_select.specs.declared.bands.Band.{Band}
 use Rattle.edge_select.specs.FrameTests.{IsColumnTest}
 use Rattle.edge_select.proofs.Beside.{beside_none, beside_logic, beside_on}
 use Rattle.edge_select.proofs.Framed.{tests_more, column_frame_test}
+use Rattle.net_build.specs.Control.{is_control}
+use Rattle.edge_select.proofs.Depth.{one_within, depth_over}
 use Rattle.edge_select.proofs.frame_tests.across_test.Goals as goal
 
 pub returns-then-is_whole-clause-adds : goal.returns-then-is_whole-clause-adds
@@ -22,3 +24,7 @@ returns-clause-test c =
     let is = subst (λ (z : Band). IsColumnTest c.column_test.new.b size (record { start = 0; band = z; net = register })) c.interval_of.ensures c.in_ok-test.ensures.test in
     column_frame_test c.column_test.new.b size c.args.delay c.args.tests.now.size.sides.some_columns c.args.tests.now.size.sides.some_rows c.turned.new.b c.moved-band.result register c.in_ok-net.net c.args.interval _ c.turned.ensures.logic.includes (ap (λ (w : ℕ). c.args.delay % w) c.from.ensures) c.moved-band.ensures.moved is
     c.in_ok-net.ensures.test
+
+pub returns-clause-depth : goal.returns-clause-depth
+returns-clause-depth c =
+    depth_over c.turned.new.b c.column_test.new.b 1 0 (c.in_ok-test.test ∷ []) c.in_ok-net.net c.turned.ensures.logic.includes (one_within c.column_test.new.b (is_control c.column_test.new.b.enable) 0 c.in_ok-test.test c.in_ok-test.ensures.test.register) c.in_ok-net.ensures.depth

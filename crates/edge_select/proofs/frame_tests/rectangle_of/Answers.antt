@@ -7,6 +7,7 @@ use Rattle.net_build.proofs.Logic.{logic_on}
 use Rattle.edge_select.specs.FrameTests.{AreFrameTests, IsPartTest}
 use Rattle.edge_select.proofs.Beside.{beside_logic, beside_on}
 use Rattle.edge_select.proofs.Framed.{part_bit, part_test_more, tests_more, rectangle_frame_test}
+use Rattle.edge_select.proofs.Depth.{part_depth_more, rectangle_depth}
 use Rattle.edge_select.proofs.frame_tests.rectangle_of.Goals as goal
 
 pub both-requires-clause-one : goal.both-requires-clause-one
@@ -33,3 +34,8 @@ returns-clause-test c =
     rectangle_frame_test c.test_net.new.b c.both.new.b c.down_test.new.b size c.args.delay c.args.tests.now.size.sides.some_columns c.args.tests.now.size.sides.some_rows r c.in_ok-across.across c.in_ok-down.down c.in_ok-test.test c.in_ok-net.net c.both.ensures.logic.includes c.test_net.ensures.logic.includes
     (part_test_more c.down_test.new.b c.across_test.new.b size c.args.delay (λ x y. IsIn c.args.rectangle.across x) c.in_ok-across.across c.in_ok-down.ensures.adds.includes c.in_ok-across.ensures.test)
     (subst (λ (z : Size). IsPartTest c.down_test.new.b z c.args.delay (λ x y. IsIn c.args.rectangle.down y) c.in_ok-down.down) same c.in_ok-down.ensures.test) c.in_ok-test.ensures.test c.in_ok-net.ensures.net
+
+pub returns-clause-depth : goal.returns-clause-depth
+returns-clause-depth c =
+    rectangle_depth c.test_net.new.b c.both.new.b c.down_test.new.b c.in_ok-across.across c.in_ok-down.down c.in_ok-test.test c.in_ok-net.net c.both.ensures.logic.includes c.test_net.ensures.logic.includes
+    (part_depth_more c.down_test.new.b c.across_test.new.b c.in_ok-across.across c.in_ok-down.ensures.adds.includes c.in_ok-across.ensures.depth) c.in_ok-down.ensures.depth c.in_ok-test.ensures.depth c.in_ok-net.ensures.depth

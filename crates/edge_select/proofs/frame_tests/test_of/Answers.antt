@@ -5,6 +5,7 @@ use Rattle.edge_select.specs.Passes.{PassesOn}
 use Rattle.edge_select.specs.FrameTests.{IsFrameTest}
 use Rattle.edge_select.proofs.Beside.{beside_logic}
 use Rattle.edge_select.proofs.Framed.{tests_more}
+use Rattle.edge_select.proofs.Depth.{constant_depth}
 use Rattle.edge_select.proofs.frame_tests.test_of.Goals as goal
 
 pub returns-in_ok-net-in-Some-clause-test : goal.returns-in_ok-net-in-Some-clause-test
@@ -16,3 +17,6 @@ returns-in_ok-net-in-None-clause-adds c = beside_logic c.constant_test.new.b c.a
 
 pub returns-in_ok-net-in-None-clause-tests : goal.returns-in_ok-net-in-None-clause-tests
 returns-in_ok-net-in-None-clause-tests c = tests_more c.constant_test.new.b c.args.b.now (size_of c.args.tests.now.size) c.args.tests.now c.constant_test.ensures.logic.includes c.requires.tests
+
+pub returns-in_ok-net-in-None-clause-depth : goal.returns-in_ok-net-in-None-clause-depth
+returns-in_ok-net-in-None-clause-depth c = constant_depth c.constant_test.new.b c.args.b.now 2 c.in_ok-net-in-None.net c.constant_test.ensures.logic.includes c.in_ok-net-in-None.ensures.depth

@@ -15,7 +15,7 @@ pub returns-clause-delay : goal.returns-clause-delay
 returns-clause-delay c = c.in_ok-nets.ensures.chain.delay
 
 pub returns-clause-made : goal.returns-clause-made
-returns-clause-made c = short_buffer c.chained.new.b _ _ c.args.image.ages.now c.in_ok-nets.nets.items c.in_ok-nets.ensures.chain.made
+returns-clause-made c = short_buffer c.chained.new.b _ _ _ c.args.image.ages.now c.in_ok-nets.nets.items c.in_ok-nets.ensures.chain.made
 
 pub returns-clause-fills : goal.returns-clause-fills
 returns-clause-fills c = chain_fills c.chained.new.b c.args.b.now c.args.image.width c.args.image.net c.args.image.ages.now c.in_ok-nets.nets.items c.in_ok-nets.ensures.chain

@@ -1,17 +1,13 @@
-use Rattle.std.proofs.Common.{◌∙◌, sym, subst, ap}
+use Rattle.std.proofs.Common.{◌∙◌, ap}
 use Rattle.std.specs.Prelude.{unwrap_or}
 use Rattle.std.specs.Option.{option_map}
 use Rattle.wiring.specs.declared.right.Atom.TheVariants as atom
 use Rattle.wiring.specs.declared.netlist.Shape.{Shape}
-use Rattle.wiring.specs.declared.netlist.Holder.TheVariants.{OfNet}
 use Rattle.net_build.specs.Includes.{Includes}
-use Rattle.net_build.specs.Control.{IsMadeOf, is_control}
 use Rattle.net_build.proofs.Parts.{includes_on}
 use Rattle.net_build.proofs.Grown.{net_more, width_more}
 use Rattle.net_build.proofs.Operands.{net_operand, operand_more, word_operation}
-use Rattle.net_build.proofs.Control.{made_more}
-use Rattle.line_buffer.proofs.Turning.{index_more}
-use Rattle.line_buffer.proofs.Shared.{turns_more}
+use Rattle.line_buffer.proofs.Shared.{turn_more, turns_more}
 use Rattle.line_buffer.proofs.Indexed.{line_once}
 use Rattle.line_buffer.proofs.LineMade.{line_is, first_is, line_adds, word_made}
 use Rattle.line_buffer.proofs.lines.delay_line.Goals as goal
@@ -55,13 +51,7 @@ returns-clause-line c =
       word_width = width_more c.put.new.self c.op.new.self (includes_on _ _ _ c.stored_net.ensures.logic.includes c.put.ensures.includes) c.in_ok-word.word c.in_ok-word.ensures.net.declared
           ∙ c.in_ok-word.ensures.width
           ∙ ap (λ o. unwrap_or (option_map (λ (s : Shape). s.width) o) 0) c.in_ok-array.ensures.shape;
-      index = record {
-        there = net_more c.put.new.self c.turning_index.new.b grown c.in_ok-index.index c.in_ok-index.ensures.turn.there;
-        width = width_more c.put.new.self c.turning_index.new.b grown c.in_ok-index.index c.in_ok-index.ensures.turn.there.declared ∙ c.in_ok-index.ensures.turn.width;
-        counter = index_more c.put.new.self c.turning_index.new.b c.args.words c.in_ok-index.index grown c.in_ok-index.ensures.turn.counter;
-        control = subst (λ e. IsMadeOf c.put.new.self (is_control e) (OfNet c.in_ok-index.index)) (sym grown.enable) (made_more c.put.new.self c.turning_index.new.b (is_control c.turning_index.new.b.enable) grown c.in_ok-index.ensures.turn.control);
-      };
+      index = turn_more c.put.new.self c.turning_index.new.b c.args.words c.in_ok-index.index grown c.in_ok-index.ensures.turn;
       made = word_made c.args.b.now c.turning_index.new.b c.array.new.self c.op.new.self c.stored_net.new.b c.put.new.self c.args.width c.args.words c.in_ok-array.array c.in_ok-index.index c.args.value c.in_ok-word.word c.in_ok-stored.stored c.in_ok-index.ensures.adds c.in_ok-index.ensures.turn.counter c.in_ok-index.ensures.turn.control c.requires.words.0
-          c.in_ok-array.ensures.ok c.in_ok-array.ensures.number c.in_ok-array.ensures.shape c.array.ensures.includes c.op.ensures.includes c.in_ok-word.ensures.ok c.op.ensures.wires c.in_ok-word.ensures.value c.stored_net.ensures.logic c.in_ok-stored.ensures.net c.put.ensures.includes c.put.ensures.update c.put.ensures.edge c.in_ok-word.ensures.made c.in_ok-stored.ensures.right
-          c.in_ok-word.ensures.made_of;
+          c.in_ok-array.ensures.ok c.in_ok-array.ensures.number c.in_ok-array.ensures.shape c.array.ensures.includes c.op.ensures.includes c.in_ok-word.ensures.ok c.op.ensures.wires c.in_ok-word.ensures.value c.stored_net.ensures.logic c.in_ok-stored.ensures.net c.put.ensures.includes c.put.ensures.update c.put.ensures.edge c.in_ok-word.ensures.made c.in_ok-stored.ensures.right;
     }

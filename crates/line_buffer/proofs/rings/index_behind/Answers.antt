@@ -1,4 +1,4 @@
-use Rattle.std.proofs.Common.{◌∙◌, arith}
+use Rattle.std.proofs.Common.{◌∙◌, ◌-◌, arith}
 use Rattle.wiring.specs.declared.right.Atom.TheVariants as atom
 use Rattle.wiring.specs.declared.right.Operator.TheVariants.{Subtract}
 use Rattle.net_build.proofs.Parts.{includes_on}
@@ -7,6 +7,7 @@ use Rattle.net_build.proofs.Operands.{net_operand, binary_operation, choose_oper
 use Rattle.net_build.proofs.Logic.{logic_on}
 use Rattle.net_build.proofs.Counting.{number_operand, old_operand}
 use Rattle.line_buffer.proofs.Tapping.{place_computes}
+use Rattle.line_buffer.proofs.Depth.{place_over}
 use Rattle.line_buffer.proofs.rings.index_behind.Goals as goal
 
 pub returns-clause-net : goal.returns-clause-net
@@ -44,3 +45,9 @@ gate-requires-4-clause-operation c =
     (old_operand c.gate-3.new.b c.gate.new.b c.in_ok-low.low 1 (includes_on _ _ _ c.gate-2.ensures.logic.includes c.gate-3.ensures.logic.includes) first.net first.width)
     (old_operand c.gate-3.new.b c.gate-2.new.b c.in_ok-up.up c.args.bits c.gate-3.ensures.logic.includes second.net (second.width ∙ width_more c.gate.new.b c.args.b.now f10 c.args.index c.requires.index.declared ∙ c.requires.width))
     (net_operand c.gate-3.new.b c.in_ok-down.down c.args.bits third.net (third.width ∙ width_more c.gate-2.new.b c.args.b.now f20 c.args.index c.requires.index.declared ∙ c.requires.width))
+
+pub returns-clause-depth : goal.returns-clause-depth
+returns-clause-depth c =
+    place_over c.args.b.now c.gate.new.b c.gate-2.new.b c.gate-3.new.b c.gate-4.new.b c.args.index c.in_ok-low.low c.in_ok-up.up c.in_ok-down.down c.in_ok-place.place c.number.result c.number-2.result c.number-3.result
+    (record { width = c.args.bits; value = c.args.age }) (record { width = c.args.bits; value = c.args.words - c.args.age }) (record { width = c.args.bits; value = c.args.age }) c.gate.ensures.logic.includes c.gate-2.ensures.logic.includes c.gate-3.ensures.logic.includes c.gate-4.ensures.logic.includes c.number.ensures c.number-2.ensures c.number-3.ensures
+    c.in_ok-low.ensures.gate c.in_ok-up.ensures.gate c.in_ok-down.ensures.gate c.in_ok-place.ensures.gate

@@ -16,7 +16,7 @@ returns-then-depth-eq0-clause-delay c =
     (still_is c.args.b.now _ c.args.image.ages.now c.args.image.net c.in_ok-still.still.items c.requires.image.there c.requires.image.ascending (sym c.greatest-depth.ensures.depth ∙ c.if-depth-eq0.true) c.in_ok-still.ensures.one_each c.in_ok-still.ensures.same)
 
 pub returns-then-depth-eq0-clause-made : goal.returns-then-depth-eq0-clause-made
-returns-then-depth-eq0-clause-made c = still_made c.args.b.now _ _ c.args.image.ages.now c.in_ok-still.still.items c.requires.image.ascending (sym c.greatest-depth.ensures.depth ∙ c.if-depth-eq0.true)
+returns-then-depth-eq0-clause-made c = still_made c.args.b.now _ _ _ c.args.image.ages.now c.in_ok-still.still.items c.requires.image.ascending (sym c.greatest-depth.ensures.depth ∙ c.if-depth-eq0.true)
 
 pub returns-clause-delay : goal.returns-clause-delay
 returns-clause-delay c = delay_is c.ring_array.new.b [] _ c.args.image.ages.now c.in_ok-taps.taps.items c.args.image.net c.requires.image.ascending c.in_ok-taps.ensures.buffer

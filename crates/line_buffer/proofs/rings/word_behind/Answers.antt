@@ -34,4 +34,4 @@ returns-clause-tap c =
     let f20 = includes_on _ _ _ c.index_behind.ensures.logic.includes c.op.ensures.includes in
     let there : slice_get b1.arrays c.args.ring.line.array ≡ Some r.shape = at_Begins c.args.b.now.arrays b1.arrays c.args.ring.line.array r.shape c.index_behind.ensures.logic.includes.arrays r.there in
     behind_tap c.args.b.now c.index_behind.new.b c.op.new.self c.args.ring.line.array c.args.ring.words c.args.age c.args.ring.bits r.shape.width c.args.ring.line.index c.in_ok-place.place c.in_ok-word.word c.args.ring.value r.shape c.index_behind.ensures.logic c.op.ensures.includes c.op.ensures.wires c.requires.some c.requires.short r.fits r.there r.deep r.counter r.control c.in_ok-place.ensures.net c.in_ok-word.ensures.ok c.in_ok-word.ensures.value
-    c.in_ok-word.ensures.net (c.in_ok-word.ensures.width ∙ ap (λ o. unwrap_or (option_map (λ (s : Shape). s.width) o) 0) there ∙ sym (width_more c.op.new.self c.args.b.now f20 c.args.ring.value r.value_net.declared ∙ r.value_wide)) c.in_ok-word.ensures.made_of
+    c.in_ok-word.ensures.net (c.in_ok-word.ensures.width ∙ ap (λ o. unwrap_or (option_map (λ (s : Shape). s.width) o) 0) there ∙ sym (width_more c.op.new.self c.args.b.now f20 c.args.ring.value r.value_net.declared ∙ r.value_wide)) c.in_ok-place.ensures.depth c.in_ok-word.ensures.made

@@ -2,7 +2,7 @@ use Rattle.std.proofs.Common.{◌-◌, ◌∙◌, ℕ, ap, sym, subst}
 use Rattle.dk_base.specs.Numbers.{bit_count}
 use Rattle.line_buffer.specs.SharedCounters.{IsTurn}
 use Rattle.line_buffer.proofs.States.{adds_register}
-use Rattle.line_buffer.proofs.Turning.{index_counts, index_control}
+use Rattle.line_buffer.proofs.Turning.{index_counts}
 use Rattle.line_buffer.proofs.sharing.new_turn.Goals as goal
 
 pub returns-then-words-eq1-clause-turn : goal.returns-then-words-eq1-clause-turn
@@ -16,5 +16,5 @@ returns-clause-turn c = record {
   there = c.in_ok-index.ensures.net.there;
   width = c.in_ok-index.ensures.width ∙ ap (λ (w : ℕ). bit_count (w - 1)) c.from-last.ensures;
   counter = index_counts c.counter.new.b _ c.args.words c.in_ok-index.index c.requires.0 (ap (λ (w : ℕ). w - 1) c.from-last.ensures) c.in_ok-index.ensures.counts;
-  control = index_control c.counter.new.b _ c.in_ok-index.index c.in_ok-index.ensures.net;
+  control = c.in_ok-index.ensures.depth;
 }

@@ -8,6 +8,7 @@ use Rattle.net_build.proofs.Parts.{includes_on}
 use Rattle.net_build.proofs.Grown.{net_more, width_more}
 use Rattle.net_build.proofs.Logic.{logic_on, computes_more}
 use Rattle.net_build.proofs.Registers.{index_is, next_is}
+use Rattle.net_build.proofs.CounterDepth.{index_over}
 use Rattle.net_build.proofs.counters.registered.Goals as goal
 
 pub returns-in_err-more-clause-logic : goal.returns-in_err-more-clause-logic
@@ -38,3 +39,7 @@ returns-clause-next c =
     next_is c.args.b.now c.gate.new.b c.count.new.b c.register_value.new.b c.args.register c.in_ok-index.index c.in_ok-more.more.next c.in_ok-next.next c.args.bits c.args.last c.args.wraps c.gate.ensures.logic.includes c.count.ensures.logic.includes c.register_value.ensures.logic.includes
     (index_is c.args.b.now c.gate.new.b c.args.register c.rst-reset.result c.in_ok-index.index c.number.result c.args.bits 0 c.gate.ensures.logic.includes c.rst-reset.ensures.reset c.rst-reset.ensures.net c.rst-reset.ensures.width c.number.ensures c.requires.bits (pow_pos c.args.bits) c.requires.register c.requires.width c.in_ok-index.ensures.gate)
     c.in_ok-more.ensures.next c.in_ok-next.ensures.net
+
+pub returns-clause-depth : goal.returns-clause-depth
+returns-clause-depth c =
+    index_over c.register_value.new.b c.gate.new.b c.args.b.now c.args.register c.rst-reset.result c.in_ok-index.index c.number.result (record { width = c.args.bits; value = 0 }) c.gate.ensures.logic.includes (includes_on _ _ _ c.count.ensures.logic.includes c.register_value.ensures.logic.includes) c.rst-reset.ensures.reset c.number.ensures c.in_ok-index.ensures.gate
