@@ -1,4 +1,4 @@
--- How many levels of logic each operator of the language adds, whatever its operands are.
+-- How many levels each operator of the language counts where bodies are cut, whatever its operands are.
 use Rattle.std.specs.Prelude.{ℕ, Bool, if◌then◌else◌}
 use Rattle.std.specs.Int.{is_power_of_two}
 use Rattle.dk_base.specs.declared.operator.Unary.{Unary}
@@ -33,7 +33,7 @@ binary_levels Xor has_power = 1
 binary_levels Min has_power = 2
 binary_levels Max has_power = 2
 
--- A division by a power of two is a shift of wires too, and so is each shift.
+-- Each shift is one of wires, and so is a division of an unsigned number by a power of two. That of a signed number has one sum, and counts the same.
 abbrev pub scaling_levels : Scaling → (by : ℕ) → ℕ
 scaling_levels Divide by = if is_power_of_two by then 0 else 2
 scaling_levels ShiftLeft by = 0

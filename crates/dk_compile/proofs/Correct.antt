@@ -95,11 +95,11 @@ compiled_correct accepted source age enable block p ir system solution plan m ne
   «module» = m;
   denotes = c.printed.stands;
   only = c.printed.only;
-  latency = latency_of plan;
-  shows = shows p ir c.planned.has.front.form m.netlist plan some_area c.circuit.drives;
+  plan = record { system = system; delays = solution.delays };
+  shows = subst (λ (q : Plan). ShowsPictures m.netlist p (latency_of q)) c.planned.plan_is (shows p ir c.planned.has.front.form m.netlist plan some_area c.circuit.drives);
   form = ir;
-  system = system;
   has = c.planned.has;
+  vector = c.planned.solved.vector;
   least = λ delays causal. subst (λ (n : ℕ). n ≤ bits system delays) (sym own_bits) (c.planned.solved.vector.least_bits delays causal);
 }
   where

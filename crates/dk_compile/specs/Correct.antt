@@ -9,7 +9,9 @@ use Rattle.wiring.specs.Snapshot.{Contents, Snapshot, Fit, FitsContents, net_val
 use Rattle.wiring.specs.Runs.{Runs, RunStops}
 use Rattle.netlist.specs.Names.{NamedNetlist}
 use Rattle.pointwise_ir.specs.Programs.{Program}
-use Rattle.raster_delay.specs.Systems.{System, IsCausal, bits}
+use Rattle.raster_delay.specs.Systems.{IsCausal, bits}
+use Rattle.flow_dual.specs.Solutions.{IsLeastVector}
+use Rattle.buffer_plan.specs.Plans.{Plan, latency_of}
 use Rattle.circuit.specs.Driven.{driven}
 use Rattle.verilog_text.specs.Stands.{StandsFor}
 use Rattle.same_phases.specs.Phases.{IsRound, output_picture}
@@ -58,11 +60,12 @@ pub record IsCorrect (source : List ℕ) (age : ℕ) (verilog : List ℕ) : Type
   pub «module» : NamedNetlist
   pub denotes : StandsFor verilog «module»
   pub only : (other : NamedNetlist) → StandsFor verilog other → other ≡ «module»
-  -- which shows the program's pictures
-  pub latency : ℕ → ℕ
-  pub shows : ShowsPictures «module».netlist program latency
-  -- and has the fewest bits of all causal schedules of the program's images
+  -- which shows the program's pictures, each output from its delay in this plan on
+  pub plan : Plan
+  pub shows : ShowsPictures «module».netlist program (latency_of plan)
+  -- the plan is the program's, and its delays are the smallest among the causal ones of least bits
   pub form : Program
-  pub system : System
-  pub has : HasSystem source age program form system
-  pub least : (delays : List ℕ) → IsCausal system delays → array_bits «module».netlist.arrays ≤ bits system delays
+  pub has : HasSystem source age program form plan.system
+  pub vector : IsLeastVector plan.system plan.delays
+  -- the module's arrays have the fewest bits of all causal schedules of the program's images
+  pub least : (delays : List ℕ) → IsCausal plan.system delays → array_bits «module».netlist.arrays ≤ bits plan.system delays

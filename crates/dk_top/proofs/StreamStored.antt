@@ -212,7 +212,7 @@ module _ (p : Typing) (m : Netlist) (from : Contents) (late : ℕ) (law : ShowsL
         let more : length e.samples ≡ W = e.is_row.count ∙ (ap (λ w. w * 1) wide_line ∙ (let i : W * 1 ≡ W = omega arith in i)) in
         let nums = line_numbers W R f.y (length xs) (length e.samples) f.made late wide before more f.some f.within f.whole in
         some_then (IsFront kind (shown_by p whole) f.y) (LeavesAtWrite p late file now.image.rest) now.file.bytes (λ bytes h.
-        of_line f.y (e.count * p.size.height + (e.rows + 1)) whole front rest taken left
+        of_line f.y (e.count * p.size.height + (e.rows + 1)) whole front rest taken (let some : 0 < e.rows + 1 = omega arith in some) left
         (subst (λ n. (f.y + 1) * W + late ≤ n * W) (let i : R + 1 ≡ e.count * p.size.height + (e.rows + 1) = omega arith in i) nums.0)
         (subst (λ n. n * W < (f.y + 1) * W + late + W) (let i : R + 1 ≡ e.count * p.size.height + (e.rows + 1) = omega arith in i) nums.1)
         (record { count = h.count; inside = h.inside; holds = h.holds })) f.told
@@ -231,11 +231,12 @@ module _ (p : Typing) (m : Netlist) (from : Contents) (late : ℕ) (law : ShowsL
         let none : rest ≡ [] = at_end now.image.rest rest e.end left in
         let all : file ≡ e.bytes = parts ∙ (ap (λ z. e.bytes ++ z) none ∙ append-nil e.bytes) in
         let n = length e.images in
-        let taken : LinesTaken p.size bits file (n * p.size.height) xs file [] = subst (λ z. LinesTaken p.size bits file (n * p.size.height) xs z []) (sym all) (all_images p.size bits n file e.images e.bytes [] e.are e.fit refl e.few (parts ∙ ap (λ z. e.bytes ++ z) none)) in
+        let taken : (t : LinesTaken p.size bits file (n * p.size.height) xs file []) × (t.part ≡ []) =
+        subst (λ z. (t : LinesTaken p.size bits file (n * p.size.height) xs z []) × (t.part ≡ [])) (sym all) (all_images p.size bits n file e.images e.bytes [] e.are e.fit refl e.few (parts ∙ ap (λ z. e.bytes ++ z) none), refl) in
         let before : length xs ≡ n * p.size.height * p.size.width = images_long p.size bits e.images e.bytes e.are e.fit in
         let nums = rest_numbers p.size.width (n * p.size.height) f.y (length xs) (length zs) f.made late wide before count f.some f.within f.whole in
         some_then (IsFront kind (shown_by p xs) f.y) (LeavesAtWrite p late file now.image.rest) now.file.bytes (λ bytes h.
-        of_rest f.y (n * p.size.height) xs taken (left ∙ ap Some none) nums.0 nums.1 (record { count = h.count; inside = h.inside; holds = h.holds })) f.told
+        of_rest f.y (n * p.size.height) xs taken.0 taken.1 (left ∙ ap Some none) nums.0 nums.1 (record { count = h.count; inside = h.inside; holds = h.holds })) f.told
 
     -- the first header, or the reset clock
     write_first_stored : (header : Header) (before : Outside) → TakesHead header old.image before.image → FitsHeader p.size bits header → before ≡ record old { image = record old.image { rest = before.image.rest } } → now.image ≡ before.image

@@ -193,14 +193,14 @@ pub record LeavesAtRead (p : Typing) (latency : ℕ) (file : List ℕ) (left : O
   pub holds : HoldsLines p latency samples bytes
 
 -- After a failed write: a front of the first header, where only that header of the file was read; or all lines before line y and a front of it,
--- where the fewest lines were taken that make line y whole, or all there are.
+-- where the fewest lines were taken that make line y whole, and no header after them; or all there are, the lines of whole images.
 pub data LeavesAtWrite (p : Typing) (latency : ℕ) (file : List ℕ) (left : Option (List ℕ)) (bytes : List ℕ) : Type 0 where
   of_header : ReadsFirst p file left → (count : ℕ) → count < length (head (output_kind p))
       → bytes ≡ take count (head (output_kind p)) → LeavesAtWrite p latency file left bytes
-  of_line : (y rows : ℕ) (samples front rest : List ℕ) → LinesTaken p.size (first_bits p) file rows samples front rest → left ≡ Some rest
+  of_line : (y rows : ℕ) (samples front rest : List ℕ) → (taken : LinesTaken p.size (first_bits p) file rows samples front rest) → 0 < taken.open_rows → left ≡ Some rest
       → (y + 1) * p.size.width + latency ≤ rows * p.size.width → rows * p.size.width < (y + 1) * p.size.width + latency + p.size.width
       → HoldsFront p samples y bytes → LeavesAtWrite p latency file left bytes
-  of_rest : (y rows : ℕ) (samples : List ℕ) → LinesTaken p.size (first_bits p) file rows samples file [] → left ≡ Some []
+  of_rest : (y rows : ℕ) (samples : List ℕ) → (taken : LinesTaken p.size (first_bits p) file rows samples file []) → taken.part ≡ [] → left ≡ Some []
       → rows * p.size.width < (y + 1) * p.size.width + latency → (y + 1) * p.size.width ≤ rows * p.size.width
       → HoldsFront p samples y bytes → LeavesAtWrite p latency file left bytes
 

@@ -1,5 +1,5 @@
 -- The lines that name the nets of a program's circuit.
-use Rattle.std.specs.Prelude.{ℕ, suc, zero, pos, List, [], ◌++◌, length, slice_index, slice_index_or, unsigned_abs, codes, decimal}
+use Rattle.std.specs.Prelude.{ℕ, suc, zero, pos, List, [], ◌++◌, length, slice_index, slice_index_or, codes, decimal}
 use Rattle.std.specs.Fmt.{signed_decimal}
 use Rattle.dk_base.specs.declared.stencils.Image.{Image}
 use Rattle.dk_base.specs.declared.stencils.LiveRead.{LiveRead}
@@ -42,11 +42,11 @@ image_line p plan m nets k =
 abbrev pub read_place : Program → LiveRead → List ℕ
 read_place p r = codes "read" ++ (field (name_of p r.f) ++ (field (name_of p r.g) ++ (field (signed_decimal r.dx) ++ field (signed_decimal r.dy))))
 
--- `read READER NAME DX DY NET AGE`: the live read at place k, by READER of the image NAME, its net, and its age in clocks
+-- `read READER NAME DX DY NET AGE`: the live read at place k, by READER of the image NAME, its net, and its age in clocks, without a sign in a causal plan
 abbrev pub read_line : Program → Plan → NamedNetlist → List Net → (k : ℕ) → List ℕ
 read_line p plan m reads k =
     read_place p (read_at plan k) ++ (field (net_name m (net_at reads k))
-    ++ (field (decimal (unsigned_abs (read_age plan (read_at plan k)))) ++ codes "\n"))
+    ++ (field (signed_decimal (read_age plan (read_at plan k))) ++ codes "\n"))
 
 -- `output NAME VALID DOUT`: the image of output k, and its ports
 abbrev pub output_line : Program → Plan → NamedNetlist → (k : ℕ) → List ℕ

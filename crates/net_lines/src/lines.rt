@@ -1,6 +1,6 @@
 // The lines.
 
-ghost use Rattle.std.specs.Prelude.{◌≡◌, ◌<◌, ◌++◌, length, unsigned_abs, IfOk, OnOk, decimal, codes};
+ghost use Rattle.std.specs.Prelude.{◌≡◌, ◌<◌, ◌++◌, length, pos, IfOk, OnOk, decimal, codes};
 ghost use Rattle.std.specs.Fmt.{signed_decimal};
 ghost use Rattle.verilog_layout.specs.Layout.{net_name};
 ghost use Rattle.buffer_plan.specs.Plans.{delay_of, read_age};
@@ -111,7 +111,7 @@ fn read_of(plan: &Plan, k: usize) -> LiveRead
 // The age of the live read at place k.
 fn age_at(plan: &Plan, k: usize) -> u64
     requires { k < length plan.now.system.stencils.reads }
-    ensures { result ≡ unsigned_abs (read_age plan.now (read_at plan.now k)) }
+    ensures { pos result ≡ read_age plan.now (read_at plan.now k) }
 {
     let read = plan.live_reads()[k];
     let age = plan.age(read);

@@ -1,6 +1,6 @@
 //! `nets`: the nets of a program's circuit, by the names of its images.
 
-ghost use Rattle.std.specs.Prelude.{◌≡◌, ◌≢◌, ◌≤◌, Some, Err, IfOk, IfErr, IfSome, OnOk};
+ghost use Rattle.std.specs.Prelude.{◌≡◌, ◌≤◌, Some, Err, IfOk, IfErr, IfSome, OnOk};
 ghost use Rattle.dk_base.specs.declared.TheConstants.{MAX_AGE};
 ghost use Rattle.dk_desk.specs.Calls.{HasCauseIn, IsIfTold, OpensOnly};
 ghost use Rattle.dk_compile.specs.Limits.{IsFaultAt};
@@ -10,9 +10,8 @@ ghost use Rattle.dk_top.specs.Compiling.{AreNetLines};
 ghost use Rattle.dk_top.specs.State.{LeavesText};
 ghost use Rattle.dk_top.specs.Reading.{OfFile, Stops, IsSourceEnding};
 
-use crate::commands::compiling::compiled;
+use crate::commands::compiling::read_compiled;
 use crate::files::write_report;
-use crate::reading::read_text;
 use crate::work::Work;
 use dk_compile::Options;
 use dk_desk::{Desk, InSlot, Stage};
@@ -21,35 +20,8 @@ use dk_words::NetsWords;
 use net_lines::{NamedNets, net_lines};
 use std::alloc::Global;
 
-// The lines of the nets of what a text is compiled to.
-fn nets_of(alloc: Global, text: &[u8], options: Options) -> Result<Vec<u8>, Ending>
-    requires age { options.age ≤ MAX_AGE }
-    requires block { IfSome options.block (λ n. 2 ≤ n) }
-    ensures lines { IfOk result (λ lines. AreNetLines text.now options.age options.enable options.block lines.items) }
-    ensures good { OnOk result (CanBeCompiled text.now options.age) }
-    ensures fault { IfErr result (IsSourceEnding (IsFaultAt text.now options.age)) }
-    ensures stops { IfErr result Stops }
-    ensures judged { result ≢ Err Ending.ReadFault }
-{
-    let circuit = match compiled(alloc, text, options) {
-        Ok(circuit) => circuit,
-        Err(ending) => return Err(ending),
-    };
-    let nets = NamedNets {
-        ir: &circuit.ir,
-        plan: &circuit.plan,
-        module: &circuit.module,
-        images: &circuit.nets,
-        reads: &circuit.reads,
-    };
-    match net_lines(alloc, &nets) {
-        Ok(lines) => Ok(lines),
-        Err(_) => Err(Ending::Memory),
-    }
-}
-
 // Reads, judges and compiles the program, and returns the lines of its nets.
-fn read_nets<D: Desk>(
+fn nets_of<D: Desk>(
     alloc: Global,
     desk: &mut D,
     name: &str,
@@ -73,11 +45,21 @@ fn read_nets<D: Desk>(
     ensures cause { HasCauseIn (result ≡ Err Ending.ReadFault) (D.outside desk.old).input_failures
         (D.outside desk.new).input_failures }
 {
-    let text = match read_text(alloc, desk, name) {
-        Ok(text) => text,
+    let circuit = match read_compiled(alloc, desk, name, options) {
+        Ok(circuit) => circuit,
         Err(ending) => return Err(ending),
     };
-    nets_of(alloc, &text, options)
+    let nets = NamedNets {
+        ir: &circuit.ir,
+        plan: &circuit.plan,
+        module: &circuit.module,
+        images: &circuit.nets,
+        reads: &circuit.reads,
+    };
+    match net_lines(alloc, &nets) {
+        Ok(lines) => Ok(lines),
+        Err(_) => Err(Ending::Memory),
+    }
 }
 
 /// Writes the lines of the program's nets to Report.
@@ -90,7 +72,7 @@ impl Work for NetsWords<'_> {
             age: self.age,
             block: self.block,
         };
-        let lines = match read_nets(alloc, desk, self.program, options) {
+        let lines = match nets_of(alloc, desk, self.program, options) {
             Ok(lines) => lines,
             Err(ending) => return ending,
         };

@@ -1,5 +1,5 @@
 use Rattle.std.proofs.Common.{List, sym, subst, ap, ◌∙◌}
-use Rattle.std.specs.Prelude.{pos, unsigned_abs, Contains, slice_index_or}
+use Rattle.std.specs.Prelude.{pos, Contains, slice_index_or}
 use Rattle.std.proofs.lemmas.List.Elements.{Contains-get_or}
 use Rattle.dk_base.specs.declared.stencils.LiveRead.{LiveRead}
 use Rattle.buffer_plan.specs.Plans.{read_age}
@@ -16,4 +16,4 @@ age-age-requires c =
 pub returns : goal.returns
 returns c =
     let plan = c.args.plan.now in
-    ap unsigned_abs (c.age-age.ensures.value ∙ ap (λ (rs : List LiveRead). read_age plan (slice_index_or rs c.args.k none)) c.live_reads.ensures)
+    c.age-age.ensures.value ∙ ap (λ (rs : List LiveRead). read_age plan (slice_index_or rs c.args.k none)) c.live_reads.ensures
