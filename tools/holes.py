@@ -24,6 +24,7 @@ import rtlib
 TOP = os.path.dirname(os.path.dirname(os.path.abspath(__file__)))
 HOLES = f"{tempfile.gettempdir()}/holes-of-{os.path.basename(TOP)}"
 FUNCTION = r"(?:pub(?:\([^)]*\))?\s+)?(?:const\s+)?fn\s+(\w+)"
+TYPE = r"(?m)^(?:pub(?:\([^)]*\))?\s+)?(?:struct|enum)\s+(\w+)"
 
 
 def dependencies():
@@ -70,12 +71,22 @@ def copied(crate):
     for part in ("src", "specs", "proofs"):
         if os.path.isdir(f"{TOP}/crates/{crate}/{part}"):
             shutil.copytree(f"{TOP}/crates/{crate}/{part}", f"{folder}/{part}")
+    texts, homes = [], {}
     for below, _, names in os.walk(f"{folder}/src"):
         for name in (it for it in names if it.endswith(".rt")):
             module = os.path.relpath(f"{below}/{name}", f"{folder}/src")[:-3].split("/")
+            module = module[:-1] if module[-1] in ("lib", "mod") else module
             with open(f"{below}/{name}", encoding="utf-8") as file:
-                for path in paths_in(file.read(), module[:-1] if module[-1] in ("lib", "mod") else module):
-                    hole(crate, folder, path)
+                text = file.read()
+            texts.append((text, module))
+            for it in re.finditer(TYPE, text):
+                homes.setdefault(it[1], []).append(module)
+    for text, module in texts:
+        for path in paths_in(text, module):
+            # a method's path begins with the module of its type, whichever module has the impl
+            if len(path) == len(module) + 2 and module not in homes.get(path[-2], [module]):
+                path = [*homes[path[-2]][0], *path[-2:]]
+            hole(crate, folder, path)
     return f"{folder}/src/lib.rt"
 
 

@@ -9,12 +9,12 @@ prints 'image a din 8 0
 image f din 8 0
 read f a 0 0 din 0
 output f valid dout' nets copy.dk
-# At age 1 `a` has an array of two words (n6), `b` and `d` have one word each (n9, n30). The difference is n29, and n35 is 0 where it is negative.
+# At age 1 `a` has an array of two words (n6), `b` and `d` have one word each (n9, n30). The difference is n29, and n34 is 0 where it is negative.
 printf 'size 4 1\ninput a : u8\ninput b : u4\nlet d = im(x,y) a(x-1,y) - b(x,y) end\nlet e = im(x,y) sat(d(x,y), u8) end\noutput e\noutput a\n' >two.dk
 prints 'image a din 8 0
 image b din1 4 0
 image d n29 9 1
-image e n35 8 2
+image e n34 8 2
 read d a -1 0 n6 2
 read d b 0 0 n9 1
 read e d 0 0 n30 1
