@@ -33,18 +33,19 @@ use Rattle.net_build.specs.Draft.{IsNet, UpdatesDiffer, flat}
 use Rattle.net_build.specs.Runs.{IsClockOf, InEachRun, IsWhole, RunsOn}
 use Rattle.net_build.specs.Control.{FedOnly, IsMadeOf, is_control, is_control_but, IsControl, IsControlBut, TakesControl, IsControlled, AddsReads}
 use Rattle.net_build.specs.Indices.{read_indices, put_indices}
-use Rattle.net_build.proofs.Parts.{Includes-refl}
+use Rattle.net_build.proofs.Parts.{Includes-refl, Includes-trans}
 use Rattle.net_build.proofs.Runs.{clock_more}
 use Rattle.net_build.proofs.Grown.{net_more, width_more}
 use Rattle.net_build.specs.Depth.{IsWithin}
-use Rattle.net_build.proofs.Depth.{within_more}
+use Rattle.net_build.proofs.Depth.{within_more, within_deeper, within_wire, within_net}
 use Rattle.net_build.proofs.Control.{made_more, made_wider, made_wire, made_net, outputs_control}
 use Rattle.net_build.proofs.Reading.{outputs_read}
 use Rattle.net_build.proofs.Indexed.{reads_last, puts_last}
 use Rattle.net_build.proofs.Updating.{all_updated}
 use Rattle.net_build.proofs.Finished.{output_shown}
 use Rattle.net_build.proofs.Standing.{held_same}
-use Rattle.pointwise_ir.specs.Programs.{Program}
+use Rattle.pointwise_ir.specs.Programs.{Program, IsBody}
+use Rattle.pointwise_ir.specs.Trees.{Tree}
 use Rattle.pointwise_ir.specs.Stencils.{AreStencilsOf}
 use Rattle.buffer_plan.specs.Plans.{Plan, IsPlan, place_in, ages_of, read_age, delay_of, width_of, depth_of, latency_of, bits_of}
 use Rattle.buffer_plan.proofs.Aged.{are_ages}
@@ -53,17 +54,22 @@ use Rattle.line_buffer.specs.Places.{word_at}
 use Rattle.line_buffer.specs.Chains.{AreCopies}
 use Rattle.line_buffer.proofs.Ages.{age_within}
 use Rattle.circuit.specs.Rounds.{Rounds, AreRounds, Feeds, type_at, pixel_bits, pixel_count}
-use Rattle.circuit.specs.Taps.{Keeps, taps_at, HaveTaps, IsTapOf, AreTapsOf}
+use Rattle.circuit.specs.Taps.{Keeps, taps_at, HaveTaps, IsTapOf, AreTapsOf, HasControl, size_in}
 use Rattle.line_buffer.specs.Fills.{HasRight, AreFilled}
 use Rattle.line_buffer.proofs.Filling.{fills_more, index_control_more}
 use Rattle.circuit.specs.Forms.{Shapes, Form, HasProperty, shapes_of, first_array, end_array}
 use Rattle.edge_select.specs.declared.frame_tests.FrameTests.{FrameTests}
-use Rattle.circuit.specs.Images.{IsLine, AreBuilt, AreBuiltWith, words_in, reads_directly, source_of, direct_source, image_levels}
+use Rattle.circuit.specs.Images.{IsLine, IsOverReads, HasTapsOf, AreBuilt, AreBuiltWith, words_in, reads_directly, tap_source_of, source_of, direct_source, image_levels}
 use Rattle.circuit.proofs.Keeping.{adds_for}
 use Rattle.circuit.specs.Behaviour.{net_of, is_valid, ShowsPixels, read_net, AreReadNets, Behaves, HasPorts}
-use Rattle.circuit.specs.Nets.{AreNetsOf, IsApart, kept_source_of}
+use Rattle.circuit.specs.Nets.{AreNetsOf, IsApart, kept_source_of, HasReadNets, IsComputed, AreComputed}
 use Rattle.circuit.specs.Modules.{CopyLongArrays, AddsCopies, HasBits, ReadsOnly, IsModuleOf}
 use Rattle.circuit.specs.Ends.{output_in, CanEnd, IsClosed}
+use Rattle.circuit.specs.Registers.{CountsRegisters, HasRegisters}
+use Rattle.net_build.specs.Registers.{register_bits, distinct}
+use Rattle.line_buffer.specs.declared.sharing.Turns.{Turns}
+use Rattle.line_buffer.specs.SharedCounters.{line_words, block_words, index_bits, long_words, short_words, copy_bits}
+use Rattle.edge_select.proofs.Framed.{tests_more}
 use Rattle.circuit.proofs.Streamed.{Line, Streams, AreImages}
 use Rattle.circuit.proofs.Horizons.{horizon}
 use Rattle.circuit.proofs.Feeding.{feeds_earlier, input_right, whole_nets, whole_taps}
@@ -72,7 +78,10 @@ use Rattle.circuit.proofs.Sourced.{source_kept, control_kept, own_kept, control_
 use Rattle.circuit.proofs.Building.{place_of_entry, entry_kept, built_lasts}
 use Rattle.circuit.proofs.Typing.{entry_or, plan_width}
 use Rattle.circuit.proofs.Forming.{plan_depth, plan_wide}
-use Rattle.circuit.proofs.Netted.{shows_only, output_right, some_array, put_made, first_stores, later_stores, long_copied}
+use Rattle.circuit.specs.Depths.{ChoosesAmong}
+use Rattle.circuit.proofs.BodyNets.{read_of}
+use Rattle.circuit.proofs.Computed.{one_tap}
+use Rattle.circuit.proofs.Netted.{place_of, shows_only, output_right, some_array, put_made, first_stores, later_stores, long_copied}
 use Rattle.wiring.proofs.Search.{at_push}
 use Rattle.circuit.proofs.Leaving.{flat_at}
 
@@ -447,20 +456,73 @@ module _ (m b : Netlist) (p : Program) (plan : Plan) (form : Form) (nets : List 
     pub read_nets : AreReadNets m p plan reads
     read_nets = record { one_each = are.one_each; there = read_there; width = read_width; shows = read_shows }
 
+    -- each image is computed from the nets of its live reads
+    taps_in : (f : ℕ) (base : Holder → Bool) → HasReadNets plan reads f base → HasTapsOf plan taps f base
+    taps_in f base has r tap among tapped =
+        let (listed, of_f) = read_of plan f r among in
+        let (k, at) = place_of plan.system.stencils.reads r listed in
+        subst (λ (n : Net). IsTrue (base (OfNet n))) (one_tap plan taps r (read_net reads k) tap (read_at k r at) tapped) (has k r at of_f)
+
+    computed_image : (f : ℕ) → Keeps plan f → length p.inputs ≤ f → IsComputed m p plan reads f (net_of plan nets f)
+    computed_image f kept past =
+        let over : IsOverReads last p plan taps f (net_of plan nets f) = (line f kept).over past in
+        record {
+          made = λ base has own. made_more m last base grows (over.made base (subst (λ (e : Bool). HasControl e base) grows.enable has) (taps_in f base own));
+          levels = λ e n is_body among base has own. within_more m last base grows (over.levels e n is_body among base (subst (λ (e : Bool). HasControl e base) grows.enable has) (taps_in f base own));
+        }
+
+    computed_now : (k : ℕ) (r : LiveRead) → slice_get plan.system.stencils.reads k ≡ Some r → read_age plan r ≡ pos 0 → read_net reads k ≡ net_of plan nets r.g
+    computed_now k r at aged =
+        let tap = read_at k r at in
+        let same : pos tap.age ≡ pos 0 = tap.is_age ∙ aged in
+        let zero_age : tap.age ≡ 0 = omega (arith, ints, same) in
+        (line r.g (read_source k r at)).buffer.now tap.place (read_net reads k) (subst (λ (a : ℕ). slice_get (ages_of plan r.g) tap.place ≡ Some a) zero_age tap.aged) tap.there
+
+    computed_later : (k age : ℕ) (r : LiveRead) → slice_get plan.system.stencils.reads k ≡ Some r → read_age plan r ≡ pos age → 0 < age → IsWithin m (tap_source_of form plan r.g m.enable) form.tap_levels (OfNet (read_net reads k))
+    computed_later k age r at aged some =
+        let tap = read_at k r at in
+        let same : pos tap.age ≡ pos age = tap.is_age ∙ aged in
+        let positive : 0 < tap.age = omega (arith, ints, same, some) in
+        subst (λ (e : Bool). IsWithin m (tap_source_of form plan r.g e) form.tap_levels (OfNet (read_net reads k))) (sym grows.enable)
+        (within_more m last (tap_source_of form plan r.g last.enable) grows ((line r.g (read_source k r at)).made tap.place tap.age (read_net reads k) tap.aged positive tap.there))
+
+    pub computed : AreComputed m p plan form nets reads
+    computed = record { image = computed_image; now = computed_now; later = computed_later }
+
   -- no path passes through two images
   pub apart : IsApart m p plan form nets
   apart aged f kept past =
       let base : Holder → Bool = source_of form plan f m.enable in
       let kept_base : Holder → Bool = kept_source_of form plan f m.enable in
       let made : IsMadeOf m base (OfNet (net_of plan nets f)) = subst (λ (e : Bool). IsMadeOf m (source_of form plan f e) (OfNet (net_of plan nets f))) (sym grows.enable) (made_more m last (source_of form plan f last.enable) grows ((line f kept).apart aged past)) in
+      let deep : (e : Tree) (n : ℕ) → IsBody p f e → ChoosesAmong plan f e n → IsWithin m base (image_levels form e n) (OfNet (net_of plan nets f)) =
+      λ e n is_body among. subst (λ (b : Bool). IsWithin m (source_of form plan f b) (image_levels form e n) (OfNet (net_of plan nets f))) (sym grows.enable) (within_more m last (source_of form plan f last.enable) grows ((line f kept).levels aged e n is_body among)) in
       record {
         net = made;
-        levels = λ e n is_body among. subst (λ (b : Bool). IsWithin m (source_of form plan f b) (image_levels form e n) (OfNet (net_of plan nets f))) (sym grows.enable) (within_more m last (source_of form plan f last.enable) grows ((line f kept).levels aged e n is_body among));
+        levels = deep;
+        dout_levels = λ k e n at is_body among. within_deeper (let g : 0 + image_levels form e n ≤ image_levels form e n = omega arith in g) (within_wire m (dout_net k) (Copy (atom.Net (net_of plan nets f))) base (image_levels form e n) (dout_right k f at) (within_net m base (image_levels form e n) (net_of plan nets f) (deep e n is_body among)));
         dout = λ k at. made_wire m (dout_net k) (Copy (atom.Net (net_of plan nets f))) base (dout_right k f at) (made_net m base (net_of plan nets f) made);
         put = λ x u low high at e.
             put_made m form plan copies f (net_of plan nets f) (filled f kept) kept_base (control_kept form plan f m.enable) (own_kept form plan f m.enable) closed.whole.rules.updated
             (made_wider m base kept_base (source_kept form plan f m.enable) made) x u low high at e;
       }
+
+  -- the registers that it has
+  pub registers : (turns : Turns) → CountsRegisters b p plan form.long turns tests → HasRegisters m p plan form.long
+  registers turns are = record {
+    tests = tests;
+    tests_are = tests_more m b (size_in plan) tests (Includes-trans m last b grows closed.adds.includes) has.tests_are;
+    none = are.none;
+    bits =
+        let here : m.arrays ≡ b.arrays = ap (λ (n : Netlist). n.arrays) closed.driven ∙ closed.adds.arrays in
+        let regs : register_bits m ≡ register_bits last = ap register_bits closed.driven in
+        let all = closed.starts in
+        let lines : index_bits (line_words turns) ≡ index_bits (distinct (short_words form.long m.arrays)) = ap index_bits (are.lines ∙ ap (λ (ss : List Shape). distinct (short_words form.long ss)) (sym here)) in
+        let blocks : index_bits (block_words turns) ≡ index_bits (distinct (long_words form.long m.arrays)) = ap index_bits (are.blocks ∙ ap (λ (ss : List Shape). distinct (long_words form.long ss)) (sym here)) in
+        let copied_bits : copy_bits form.long b.arrays ≡ copy_bits form.long m.arrays = ap (copy_bits form.long) (sym here) in
+        let were = are.bits in
+        omega (arith, regs, all, lines, blocks, copied_bits, were);
+  }
 
   -- no path leads from a long array but into its copy
   direct_net : (g : ℕ) → Keeps plan g → IsMadeOf m (direct_source form plan) (OfNet (net_of plan nets g))

@@ -1,6 +1,8 @@
 -- One image more is built.
 use Rattle.std.proofs.Common.{◌≡◌, ℕ, zero, suc, ◌+◌, ◌-◌, ◌<◌, ◌≤◌, nat_le, Bool, true, false, List, [], ◌∷◌, ◌++◌, length, Some, refl, sym, ap, subst, ◌∙◌, inl, inr, arith, take, append_assoc, append-nil}
-use Rattle.std.specs.Prelude.{pos, ◌≤ℤ◌, Contains, slice_get, slice_index_or}
+use Rattle.std.specs.Prelude.{pos, ◌≤ℤ◌, max, Contains, IsTrue, slice_get, slice_index_or}
+use Rattle.std.proofs.Math.ListN.{get_or-eq_default}
+use Rattle.std.proofs.Math.Nat.{le-max_left, le-max_right}
 use Rattle.std.proofs.lemmas.Bool.{cases_eq, cases_lt}
 use Rattle.std.proofs.lemmas.Int.{ints}
 use Rattle.std.proofs.lemmas.Option.{same_Some}
@@ -14,6 +16,7 @@ use Rattle.raster_delay.proofs.Places.{place_less}
 use Rattle.wiring.specs.declared.netlist.Net.{Net}
 use Rattle.wiring.specs.declared.netlist.Net.TheVariants.{Input}
 use Rattle.wiring.specs.declared.netlist.Shape.{Shape}
+use Rattle.wiring.specs.declared.netlist.Holder.{Holder}
 use Rattle.wiring.specs.declared.netlist.Holder.TheVariants.{OfNet, OfArray}
 use Rattle.wiring.specs.Netlist.{Netlist, din_net, depth}
 use Rattle.net_build.specs.Includes.{Includes}
@@ -25,9 +28,9 @@ use Rattle.net_build.specs.Indices.{read_indices, put_indices}
 use Rattle.net_build.proofs.Parts.{Includes-refl, Includes-trans}
 use Rattle.net_build.proofs.Grown.{net_more, width_more}
 use Rattle.net_build.proofs.Control.{made_more, made_wider}
-use Rattle.net_build.specs.Depth.{IsWithin}
-use Rattle.net_build.proofs.Depth.{within_more, within_wider, within_made}
-use Rattle.circuit.specs.Depths.{ChoosesAmong}
+use Rattle.net_build.specs.Depth.{IsWithin, by_itself as at_once}
+use Rattle.net_build.proofs.Depth.{within_more, within_wider, within_deeper, within_made}
+use Rattle.circuit.specs.Depths.{ChoosesAmong, test_levels}
 use Rattle.net_build.proofs.Standing.{ready_first, ready_last}
 use Rattle.net_build.proofs.Reading.{reads_joined, none_reads}
 use Rattle.net_build.proofs.Indexed.{reads_last, puts_last}
@@ -43,10 +46,10 @@ use Rattle.line_buffer.proofs.More.{is_le, buffer_stops, buffer_control}
 use Rattle.line_buffer.proofs.Filling.{fills_wider}
 use Rattle.line_buffer.proofs.Lasting.{buffer_more, buffer_ready}
 use Rattle.line_buffer.proofs.Chaining.{copies_joined}
-use Rattle.circuit.specs.Taps.{Keeps, taps_at, IsTapOf, size_in}
+use Rattle.circuit.specs.Taps.{Keeps, taps_at, IsTapOf, HasControl, size_in}
 use Rattle.circuit.specs.Reads.{reads_in}
 use Rattle.circuit.specs.Forms.{Shapes, Form, IsBuffered, shapes_of, first_array, end_array}
-use Rattle.circuit.specs.Images.{IsBodyNet, IsImageNet, IsLine, AreBuilt, words_in, reads_directly, tap_source_of, source_of, direct_source, image_levels, ports_of, AreBuiltWith}
+use Rattle.circuit.specs.Images.{IsBodyNet, IsImageNet, IsOverReads, IsLine, AreBuilt, words_in, reads_directly, tap_source_of, source_of, direct_source, image_levels, ports_of, AreBuiltWith}
 use Rattle.circuit.proofs.Lasting.{running_more}
 use Rattle.edge_select.specs.declared.frame_tests.FrameTests.{FrameTests}
 use Rattle.edge_select.specs.FrameTests.{AreFrameTests, IsApart}
@@ -96,6 +99,29 @@ old_array old x lt = by (is_new old x) refl
     by false e = e
     by true e = absurd (let h : length old.arrays ≤ x = is_le (length old.arrays) x e in let f : ⊥ = omega (arith, h, lt) in f)
 
+-- a tap is still that of its read among more taps
+tap_stays : (plan : Plan) (taps more : List (List Net)) → ((g : ℕ) → place_in plan g < length taps → taps_at plan more g ≡ taps_at plan taps g) → (r : LiveRead) (tap : Net) → IsTapOf plan taps r tap → IsTapOf plan more r tap
+tap_stays plan taps more same r tap is = record {
+  place = is.place;
+  age = is.age;
+  is_age = is.is_age;
+  aged = is.aged;
+  there = subst (λ (ts : List Net). slice_get ts is.place ≡ Some tap) (sym (same r.g within)) is.there;
+}
+  where
+    within : place_in plan r.g < length taps
+    within = elim (cases_lt (place_in plan r.g) (length taps)) as (λ _. place_in plan r.g < length taps) [
+      | inl low ↦ low
+      | inr most ↦
+          let none : taps_at plan taps r.g ≡ [] = get_or-eq_default taps [] most in
+          let at : slice_get {X = Net} [] is.place ≡ Some tap = subst (λ (ts : List Net). slice_get ts is.place ≡ Some tap) none is.there in
+          absurd (let f : ⊥ = cc in f)
+    ]
+
+-- what is in the base is within any number
+within_itself : {b : Netlist} {base : Holder → Bool} {n : ℕ} {h : Holder} → IsTrue (base h) → IsWithin b base n h
+within_itself is = at_once is
+
 -- What has been built lasts, as more is built after it with more copies, and the taps of these images stay.
 module _ (new old : Netlist) (p : Program) (plan : Plan) (form : Form) (copies more_copies : List ℕ) (taps more : List (List Net)) (same_taps : (g : ℕ) → place_in plan g < length taps → taps_at plan more g ≡ taps_at plan taps g) (ready : (before : List Clock) → IsReady more_copies before → IsReady copies before) (among : (r : ℕ) → Contains copies r → Contains more_copies r)
     (grows : Includes new old) (reads : AddsReads new old (is_new old)) (differ : UpdatesDiffer new.updates) (updated : UpdatedBut old []) where
@@ -105,6 +131,15 @@ module _ (new old : Netlist) (p : Program) (plan : Plan) (form : Form) (copies m
     body_lasts low m from before c s run rounds are right =
         is.body low m from before c s (running_more new old grows m from before c s run) rounds are
         (λ h less kept k age q tap ea et e lt. right h less kept k age q tap ea (subst (λ (ts : List Net). slice_get ts k ≡ Some tap) (sym (same_taps h (earlier h less kept))) et) e lt)
+
+    over_lasts : length p.inputs ≤ g → IsOverReads new p plan more g net
+    over_lasts low =
+        let was : IsOverReads old p plan taps g net = is.over low in
+        record {
+          made = λ base has own. made_more new old base grows (was.made base (subst (λ (e : Bool). HasControl e base) grows.enable has) (λ r tap among on. own r tap among (tap_stays plan taps more same_taps r tap on)));
+          levels = λ e n is_body among base has own.
+              within_more new old base grows (was.levels e n is_body among base (subst (λ (e : Bool). HasControl e base) grows.enable has) (λ r tap having on. own r tap having (tap_stays plan taps more same_taps r tap on)));
+        }
 
     each_lasts : (x : ℕ) → first_array form.shapes plan g ≤ x → x < end_array form.shapes plan g → form.property (words_in form.shapes plan x) (read_indices new x) (put_indices new x)
     each_lasts x low high =
@@ -123,6 +158,7 @@ module _ (new old : Netlist) (p : Program) (plan : Plan) (form : Form) (copies m
       width = width_more new old grows net is.there.declared ∙ is.width;
       input = λ low. is.input low ∙ ap (λ (e : Bool). din_net (record old { enable = e }) g) (sym grows.enable);
       body = body_lasts;
+      over = over_lasts;
       apart = λ aged low. subst (λ (e : Bool). IsMadeOf new (source_of form plan g e) (OfNet net)) (sym grows.enable) (made_more new old (source_of form plan g old.enable) grows (is.apart aged low));
       levels = λ aged e n is_body among.
           subst (λ (b : Bool). IsWithin new (source_of form plan g b) (image_levels form e n) (OfNet net)) (sym grows.enable) (within_more new old (source_of form plan g old.enable) grows (is.levels aged e n is_body among));
@@ -235,7 +271,18 @@ module _ (b2 b1 b0 : Netlist) (p : Program) (plan : Plan) (form : Form) (k : ℕ
   levels_are some e n is_body among =
       let base = source_of form plan g b0.enable in
       subst (λ (b : Bool). IsWithin b2 (source_of form plan g b) (image_levels form e n) (OfNet net)) (sym grown.enable)
-      (within_more b2 b1 base buffered.adds.includes (image.levels e n is_body among base form.tap_levels (control_source form plan g b0.enable) (tap_within some)))
+      (within_more b2 b1 base buffered.adds.includes (image.levels e n is_body among base (max test_levels form.tap_levels) (control_source form plan g b0.enable) (le-max_left test_levels form.tap_levels)
+      (λ r tap has is. within_deeper (le-max_right test_levels form.tap_levels) (tap_within some r tap has is))))
+
+  -- over the taps of its reads themselves
+  over_is : length p.inputs ≤ g → IsOverReads b2 p plan taps' g net
+  over_is no_input = record {
+    made = λ base has given.
+        made_more b2 b1 base buffered.adds.includes (image.made no_input base (subst (λ (e : Bool). HasControl e base) grown.enable has) (λ r tap among is. by_itself (given r tap among (tap_stays plan taps taps' (λ h lt. at_old taps own [] (place_in plan h) lt) r tap is))));
+    levels = λ e n is_body among base has given.
+        within_more b2 b1 base buffered.adds.includes (image.levels e n is_body among base test_levels (subst (λ (e : Bool). HasControl e base) grown.enable has) (omega arith)
+        (λ r tap having is. within_itself (given r tap having (tap_stays plan taps taps' (λ h lt. at_old taps own [] (place_in plan h) lt) r tap is))));
+  }
 
   -- no path leads from a long array to a tap of an earlier image, at any age
   tap_direct : (r : LiveRead) (tap : Net) → Contains (reads_in plan g) r → IsTapOf plan taps r tap → IsMadeOf b0 (direct_source form plan) (OfNet tap)
@@ -285,6 +332,7 @@ module _ (b2 b1 b0 : Netlist) (p : Program) (plan : Plan) (form : Form) (k : ℕ
     width = width_more b2 b1 buffered.adds.includes net image.there.declared ∙ image.width;
     input = λ is_input. image.input is_input ∙ ap (λ (e : Bool). din_net (record b1 { enable = e }) g) (sym buffered.adds.includes.enable);
     body = body_is;
+    over = over_is;
     apart = apart_is;
     levels = levels_are;
     direct = direct_net;

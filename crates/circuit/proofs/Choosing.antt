@@ -87,10 +87,10 @@ module _ (b first : Netlist) (plan : Plan) (taps : List (List Net)) (f : ℕ) (r
   fewer_made None h = h
   fewer_made (Some n) h = fewer n h
 
-  fewer_levels : (o : Option Net) → ((k : ℕ) → MeansAtMost (size_in plan) leaf reads k → IfSome o (IsOverTaps b first plan taps reads (k + test_levels))) →
-      (k : ℕ) → MeansAtMost (size_in plan) leaf (reads ++ r ∷ []) k → IfSome o (IsOverTaps b first plan taps (reads ++ r ∷ []) (k + test_levels))
+  fewer_levels : (o : Option Net) → ((k : ℕ) → MeansAtMost (size_in plan) leaf reads k → IfSome o (IsOverTaps b first plan taps reads k)) →
+      (k : ℕ) → MeansAtMost (size_in plan) leaf (reads ++ r ∷ []) k → IfSome o (IsOverTaps b first plan taps (reads ++ r ∷ []) k)
   fewer_levels None h k most = h k (most_fewer (size_in plan) leaf reads r k most)
-  fewer_levels (Some n) h k most = λ base j has own. h k (most_fewer (size_in plan) leaf reads r k most) base j has (λ q tap among is_tap. own q tap (old_in reads r q among) is_tap)
+  fewer_levels (Some n) h k most = λ base j has least own. h k (most_fewer (size_in plan) leaf reads r k most) base j has least (λ q tap among is_tap. own q tap (old_in reads r q among) is_tap)
 
   -- a read that no pixel is led to, or of another image, changes nothing
   pub choice_kept : (o : Option Net) → ((x y : ℕ) → x < plan.system.stencils.width → y < plan.system.stencils.height → r.g ≡ leaf.image → LeadBy (size_in plan) leaf.steps r.dx r.dy x y → ⊥) → ((q : ℕ) → column (size_in plan) q < plan.system.stencils.width) → ((q : ℕ) → row (size_in plan) q < plan.system.stencils.height) →
@@ -121,7 +121,7 @@ module _ (b first : Netlist) (plan : Plan) (taps : List (List Net)) (f : ℕ) (r
     width = wide_tap;
     value = λ m from before c s run q e. taken (size_in plan) plan taps reads r leaf (column (size_in plan) q) (row (size_in plan) q) s tap (net_value s tap) same (on (column (size_in plan) q) (row (size_in plan) q) (wide q) (high q)) is refl;
     made = λ base has own. made_more b first base grows (own r tap (last_in reads r) is);
-    levels = λ k most base j has own. within_deeper (omega arith) (within_more b first base grows (own r tap (last_in reads r) is));
+    levels = λ k most base j has least own. within_deeper (omega arith) (within_more b first base grows (own r tap (last_in reads r) is));
   }
 
 -- a test, a tap and a choice that are made of the base
@@ -161,15 +161,15 @@ choice_tested new mid old first plan taps f reads r leaf bits o test tap net sam
       made = λ base has own.
           let control : HasControl mid.enable base = subst (λ (e : Bool). HasControl e base) (sym (early.enable ∙ begun.enable)) has in
           one.made_of base (from_all mid base test tap o (within_made (tests.within base control)) (made_more mid first base whole (own r tap (last_in reads r) is_tap)) (rest o held.made base has (λ q t among is. own q t (old_in reads r q among) is)));
-      levels = λ k most base j has own.
+      levels = λ k most base j has least own.
           let control : HasControl mid.enable base = subst (λ (e : Bool). HasControl e base) (sym (early.enable ∙ begun.enable)) has in
-          elim (most_last (size_in plan) leaf reads r k most) as (λ _. IsWithin new base (k + test_levels + j) (OfNet net)) [
+          elim (most_last (size_in plan) leaf reads r k most) as (λ _. IsWithin new base (k + j) (OfNet net)) [
             | inl (never, fewer) ↦ absurd (some never)
-            | inr (i, less, fewer) ↦ within_deeper (let g : 1 + (i + test_levels + j) ≤ k + test_levels + j = omega (arith, less) in g)
-                (over base (i + test_levels + j) (all_within mid base (i + test_levels + j) test tap o
-                (within_deeper (let g : test_levels ≤ i + test_levels + j = omega arith in g) (tests.within base control))
-                (within_deeper (let g : j ≤ i + test_levels + j = omega arith in g) (within_more mid first base whole (own r tap (last_in reads r) is_tap)))
-                (deep (i + test_levels) o (held.levels i fewer) base j has (λ q t among is. own q t (old_in reads r q among) is))))
+            | inr (i, less, fewer) ↦ within_deeper (let g : 1 + (i + j) ≤ k + j = omega (arith, less) in g)
+                (over base (i + j) (all_within mid base (i + j) test tap o
+                (within_deeper (let g : test_levels ≤ i + j = omega (arith, least) in g) (tests.within base control))
+                (within_deeper (let g : j ≤ i + j = omega arith in g) (within_more mid first base whole (own r tap (last_in reads r) is_tap)))
+                (deep i o (held.levels i fewer) base j has least (λ q t among is. own q t (old_in reads r q among) is))))
           ];
     }
   where
@@ -177,9 +177,9 @@ choice_tested new mid old first plan taps f reads r leaf bits o test tap net sam
     rest None h base has own = h
     rest (Some n) h base has own = h base has own
 
-    deep : (k : ℕ) (o : Option Net) → IfSome o (IsOverTaps mid first plan taps reads k) → (base : Holder → Bool) (j : ℕ) → HasControl first.enable base → ((q : LiveRead) (t : Net) → Contains reads q → IsTapOf plan taps q t → IsWithin first base j (OfNet t)) → IfSome o (λ n. IsWithin mid base (k + j) (OfNet n))
-    deep k None h base j has own = h
-    deep k (Some n) h base j has own = h base j has own
+    deep : (k : ℕ) (o : Option Net) → IfSome o (IsOverTaps mid first plan taps reads k) → (base : Holder → Bool) (j : ℕ) → HasControl first.enable base → test_levels ≤ j → ((q : LiveRead) (t : Net) → Contains reads q → IsTapOf plan taps q t → IsWithin first base j (OfNet t)) → IfSome o (λ n. IsWithin mid base (k + j) (OfNet n))
+    deep k None h base j has least own = h
+    deep k (Some n) h base j has least own = h base j has least own
 
 -- 0 fits each width
 zero_fits : (bits : ℕ) → IsWidth bits → IsConstant (record { width = bits; value = 0 })

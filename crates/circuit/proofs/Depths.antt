@@ -47,7 +47,7 @@ module _ (size : Size) (leaf : LeafRead) where
 
 -- as the netlist grows
 pub over_taps_more : (c b first : Netlist) (plan : Plan) (taps : List (List Net)) (reads : List LiveRead) (k : ℕ) (n : Net) → Includes c b → IsOverTaps b first plan taps reads k n → IsOverTaps c first plan taps reads k n
-over_taps_more c b first plan taps reads k n f is base j has own = within_more c b base f (is base j has own)
+over_taps_more c b first plan taps reads k n f is base j has least own = within_more c b base f (is base j has least own)
 
 -- the gate of a choice between a tap and what was chosen before
 pub chosen_over : (new b : Netlist) (test tap : Net) (o : Option Net) (bits : ℕ) (rest : Atom Net) (n : Net) → Includes new b → rest ≡ atom_of_choice bits o → IsGate new b (Choose (atom.Net test) (atom.Net tap) rest) n → IsOver new b 1 (test ∷ (tap ∷ choice_nets o)) n

@@ -197,14 +197,14 @@ module _ (mid old : Netlist) (p : Program) (plan : Plan) (taps : List (List Net)
             (λ i n on. (let (leaf, at) = of_read i n on in made_within ((now.read i leaf n at on).made base has own)))
             (λ i n on. (let (steps, at) = of_bit i n on in (test_levels, (now.bit i steps n at on).within base control))) in
             within_made (made.made new base j (Includes-refl new) all);
-        levels = λ f' n is_body among base j has own.
+        levels = λ f' n is_body among base j has least own.
             let control : HasControl new.enable base = subst (λ (x : Bool). HasControl x base) (sym (late.enable ∙ early.enable)) has in
             let same : f' ≡ e = one_body p f f' e is_body body in
             let most : ChoosesAmong plan f e n = subst (λ (t : Tree). ChoosesAmong plan f t n) same among in
-            subst (λ (t : Tree). IsWithin new base (logic_levels t + (n + test_levels) + j) (OfNet net)) (sym same)
-            (within_deeper (let g : logic_levels e + (n + test_levels + j) ≤ logic_levels e + (n + test_levels) + j = omega arith in g) (made.made new base (n + test_levels + j) (Includes-refl new) (record {
-              read = λ i m on. (let (leaf, at) = of_read i m on in (now.read i leaf m at on).levels n (most i leaf at) base j has own);
-              bit = λ i m on. (let (steps, at) = of_bit i m on in within_deeper (let g : test_levels ≤ n + test_levels + j = omega arith in g) ((now.bit i steps m at on).within base control));
+            subst (λ (t : Tree). IsWithin new base (logic_levels t + n + j) (OfNet net)) (sym same)
+            (within_deeper (let g : logic_levels e + (n + j) ≤ logic_levels e + n + j = omega arith in g) (made.made new base (n + j) (Includes-refl new) (record {
+              read = λ i m on. (let (leaf, at) = of_read i m on in (now.read i leaf m at on).levels n (most i leaf at) base j has least own);
+              bit = λ i m on. (let (steps, at) = of_bit i m on in within_deeper (let g : test_levels ≤ n + j = omega (arith, least) in g) ((now.bit i steps m at on).within base control));
             })));
       }
 

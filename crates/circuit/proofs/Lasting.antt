@@ -1,5 +1,5 @@
 -- What lasts as the netlist grows.
-use Rattle.std.proofs.Common.{◌≡◌, ℕ, List, Option, Some, None, subst, ◌∙◌, ◌+◌}
+use Rattle.std.proofs.Common.{◌≡◌, ℕ, List, Option, Some, None, subst, ◌∙◌}
 use Rattle.std.specs.Prelude.{Bool, IfSome}
 use Rattle.dk_base.specs.declared.stencils.LiveRead.{LiveRead}
 use Rattle.dk_base.specs.declared.ty.Ty.{Ty}
@@ -14,7 +14,7 @@ use Rattle.net_build.specs.Draft.{IsNet}
 use Rattle.net_build.proofs.Grown.{net_more, width_more}
 use Rattle.net_build.proofs.Control.{made_more}
 use Rattle.net_build.proofs.Depth.{within_more}
-use Rattle.circuit.specs.Depths.{IsOverTaps, test_levels}
+use Rattle.circuit.specs.Depths.{IsOverTaps}
 use Rattle.circuit.proofs.Depths.{over_taps_more}
 use Rattle.net_build.proofs.Runs.{clock_more}
 use Rattle.pointwise_ir.specs.Programs.{Program}
@@ -68,7 +68,7 @@ module _ (c b : Netlist) (f : Includes c b) where
     width = widths o is.there is.width;
     value = each_pixel_more (size_in plan) (delay_of plan g) (λ x y s. IsChosen (size_in plan) plan taps reads leaf x y s (worth_of s o)) is.value;
     made = if_some (IsMadeOfTaps b first plan taps reads) (IsMadeOfTaps c first plan taps reads) o (λ n h. made_of_taps_more first plan taps reads n h) is.made;
-    levels = λ k most. if_some (IsOverTaps b first plan taps reads (k + test_levels)) (IsOverTaps c first plan taps reads (k + test_levels)) o (λ n h. over_taps_more c b first plan taps reads (k + test_levels) n f h) (is.levels k most);
+    levels = λ k most. if_some (IsOverTaps b first plan taps reads k) (IsOverTaps c first plan taps reads k) o (λ n h. over_taps_more c b first plan taps reads k n f h) (is.levels k most);
   }
     where
       widths : (o : Option Net) → IfSome o (IsNet b) → IfSome o (λ n. net_width b n ≡ bits) → IfSome o (λ n. net_width c n ≡ bits)
@@ -81,7 +81,7 @@ module _ (c b : Netlist) (f : Includes c b) where
     width = width_is n bits is.there is.width;
     value = each_pixel_more (size_in plan) (delay_of plan g) (λ x y s. IsChosen (size_in plan) plan taps (reads_in plan g) leaf x y s (net_value s n)) is.value;
     made = made_of_taps_more first plan taps (reads_in plan g) n is.made;
-    levels = λ k most. over_taps_more c b first plan taps (reads_in plan g) (k + test_levels) n f (is.levels k most);
+    levels = λ k most. over_taps_more c b first plan taps (reads_in plan g) k n f (is.levels k most);
   }
 
   pub leaf_nets_more : (first : Netlist) (p : Program) (plan : Plan) (taps : List (List Net)) (g : ℕ) (ls : List LeafRead) (ps : List (List Step)) (reads : List (Ty × Net)) (bits : List Net) → AreLeafNets b first p plan taps g ls ps reads bits → AreLeafNets c first p plan taps g ls ps reads bits

@@ -26,6 +26,8 @@ pub mod Leaving
 pub mod Netted
 pub mod Behaving
 pub mod Counting
+mod Computed
+mod Registered
 pub mod Adding
 pub mod Driven
 pub mod Keeping

@@ -31,7 +31,7 @@ use Rattle.circuit.specs.Nets.{Shows, Stores, PassesOn}
 use Rattle.circuit.specs.Modules.{HasCopy}
 
 -- the place of an entry
-place_of : {X : Type 0} (xs : List X) (x : X) → Contains xs x → (k : ℕ) × (slice_get xs k ≡ Some x)
+pub place_of : {X : Type 0} (xs : List X) (x : X) → Contains xs x → (k : ℕ) × (slice_get xs k ≡ Some x)
 place_of [] x (k, l, e) = absurd (let f : ⊥ = omega (arith, l) in f)
 place_of (y ∷ xs) x (zero, l, e) = (zero, ap (λ z. Some z) e)
 place_of (y ∷ xs) x (suc k, l, e) = (let r = place_of xs x (k, (let h : k < length xs = omega (arith, l) in h), e) in (suc r.0, r.1))

@@ -57,7 +57,7 @@ short_tap form plan g b first end low high same (OfArray x) is =
     and_both (reads_directly form plan x) (is_array_of form.shapes plan g x) (direct_is form plan b x (same x within) short)
     (subst (λ (e : ℕ). IsTrue (nat_le (first_array form.shapes plan g) x && nat_lt x e)) high (subst (λ (f : ℕ). IsTrue (nat_le f x && nat_lt x end)) low ranged))
 
-any_of : {X : Type 0} (test : X → Bool) (xs : List X) (x : X) → Contains xs x → IsTrue (test x) → IsTrue (list_any test xs)
+pub any_of : {X : Type 0} (test : X → Bool) (xs : List X) (x : X) → Contains xs x → IsTrue (test x) → IsTrue (list_any test xs)
 any_of test [] x (k, lt, e) h = absurd (let f : ⊥ = omega (arith, lt) in f)
 any_of test (y ∷ xs) x (zero, lt, e) h = first (test y) (subst (λ z. IsTrue (test z)) (sym e) h)
   where

@@ -1,5 +1,4 @@
 -- The taps of live reads, as nets of the right width.
-use Rattle.circuit.specs.Depths.{test_levels}
 use Rattle.net_build.proofs.Depth.{within_deeper}
 use Rattle.std.proofs.Common.{◌≡◌, ℕ, ◌<◌, List, length, Option, Some, None, sym, subst, ◌∙◌, arith, ◌+◌, ◌≤◌}
 use Rattle.std.specs.Prelude.{Contains, IfSome, slice_index, slice_index_or, map}
@@ -80,7 +79,7 @@ chosen_is_read new mid first plan taps f leaf bits None n grows is net =
       width = zero.width;
       value = λ m from before c s run q e. subst (λ (v : ℕ). IsChosen (size_in plan) plan taps (reads_in plan f) leaf (column (size_in plan) q) (row (size_in plan) q) s v) (sym (zero.value m s run.clock.whole.includes run.clock.at.snapshot.settled)) (now.value m from before c s run q e);
       made = λ base has own. zero.made_of base (λ x (k, lt, e). absurd (let f : ⊥ = omega (arith, lt) in f));
-      levels = λ k most base j has own. within_deeper (let g : 0 + j ≤ k + test_levels + j = omega arith in g) (net.levels base j (λ x (i, lt, e). absurd (let f : ⊥ = omega (arith, lt) in f)));
+      levels = λ k most base j has least own. within_deeper (let g : 0 + j ≤ k + j = omega arith in g) (net.levels base j (λ x (i, lt, e). absurd (let f : ⊥ = omega (arith, lt) in f)));
     }
 
 -- the type of an image is a width

@@ -1,5 +1,5 @@
 -- How a circuit ends: each output has its valid and the net of its image.
-use Rattle.std.specs.Prelude.{◌≡◌, ℕ, ◌<◌, IsTrue, List, [], ◌∷◌, length, slice_index, slice_get, Some}
+use Rattle.std.specs.Prelude.{◌≡◌, ℕ, ◌+◌, ◌<◌, IsTrue, List, [], ◌∷◌, length, slice_index, slice_get, Some}
 use Rattle.wiring.specs.declared.netlist.Net.{Net}
 use Rattle.wiring.specs.declared.netlist.Holder.TheVariants.{OfNet}
 use Rattle.wiring.specs.Netlist.{Netlist, net_width}
@@ -11,10 +11,12 @@ use Rattle.wiring.specs.History.{was_reset}
 use Rattle.net_build.specs.Draft.{IsNet, IsDraft, UpdatedBut, flat, with_outputs}
 use Rattle.net_build.specs.Runs.{IsWhole, NeverStops, StillBut, RunsOn, InEachRun}
 use Rattle.net_build.specs.Control.{IsControl, IsControlled, FedOnly}
+use Rattle.net_build.specs.Registers.{register_bits}
 use Rattle.edge_select.specs.declared.frame_tests.FrameTests.{FrameTests}
 use Rattle.edge_select.specs.FrameTests.{AddsTests}
 use Rattle.buffer_plan.specs.Plans.{Plan, latency_of}
 use Rattle.circuit.specs.Behaviour.{net_of, is_valid}
+use Rattle.circuit.specs.Registers.{latencies, latency_bits}
 
 -- Since a reset the net is 0 in each reset clock, each held clock and each counted clock below the latency, and 1 in each later one. It is made of rst, en and registers.
 pub record IsStarted (b : Netlist) (latency : ℕ) (net : Net) : Type 0 where
@@ -66,10 +68,11 @@ pub record CanEnd (b : Netlist) (plan : Plan) (nets : List Net) : Type 0 where
   pub width : (k : ℕ) → k < length plan.system.stencils.outputs → net_width b (net_of plan nets (output_in plan k)) ≡ slice_index widths k
   pub updated : UpdatedBut b []
 
--- The module of a netlist with these frame tests and with control for its outputs, which take their valids and the nets of their images.
+-- The module of a netlist with these frame tests and with control for its outputs, which take their valids and the nets of their images. A register is added for each latency of an output, and no other.
 pub record IsClosed (m b : Netlist) (plan : Plan) (nets : List Net) (tests : FrameTests) : Type 0 where
   pub last : Netlist
   pub adds : AddsTests last b tests tests
+  pub starts : register_bits last ≡ register_bits b + latency_bits tests (latencies plan)
   pub draft : IsDraft last
   pub outs : List (Net × Net)
   pub are_outs : AreOuts last plan nets (length plan.system.stencils.outputs) outs

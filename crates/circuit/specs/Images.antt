@@ -1,5 +1,5 @@
 -- What is built for the images of a plan, one after another.
-use Rattle.std.specs.Prelude.{◌≡◌, ℕ, ◌+◌, ◌*◌, ◌<◌, ◌≤◌, nat_le, nat_lt, ◌&&◌, Bool, true, false, not, List, [], length, map, take, slice_get, slice_index_or, unwrap_or, Some}
+use Rattle.std.specs.Prelude.{◌≡◌, ℕ, ◌+◌, ◌*◌, ◌<◌, ◌≤◌, nat_le, nat_lt, max, ◌&&◌, Bool, true, false, not, IsTrue, List, [], length, map, take, slice_get, slice_index_or, unwrap_or, Some, Contains}
 use Rattle.std.specs.List.{list_any}
 use Rattle.std.specs.Option.{option_map}
 use Rattle.dk_base.specs.declared.stencils.Image.{Image}
@@ -33,7 +33,7 @@ use Rattle.circuit.specs.Runs.{IsRunning}
 use Rattle.circuit.specs.Rounds.{Rounds, AreRounds, type_at, pixel_count, pixel_bits}
 use Rattle.edge_select.specs.declared.frame_tests.FrameTests.{FrameTests}
 use Rattle.edge_select.specs.FrameTests.{AreFrameTests, IsApart}
-use Rattle.circuit.specs.Taps.{Keeps, size_in, taps_at, TapsAreRight}
+use Rattle.circuit.specs.Taps.{Keeps, size_in, taps_at, IsTapOf, HasControl, TapsAreRight}
 use Rattle.circuit.specs.Depths.{ChoosesAmong, IsOverTaps, test_levels}
 use Rattle.circuit.specs.Reads.{reads_in, IsMadeOfTaps}
 use Rattle.circuit.specs.Forms.{Shapes, Form, shapes_of, first_array, end_array}
@@ -51,7 +51,7 @@ pub record IsImageNet (b old : Netlist) (p : Program) (plan : Plan) (taps : List
   pub input : f < length p.inputs → net ≡ din_net b f
   pub body : length p.inputs ≤ f → IsBodyNet b p plan taps f net
   pub made : length p.inputs ≤ f → IsMadeOfTaps b old plan taps (reads_in plan f) net
-  pub levels : (e : Tree) (n : ℕ) → IsBody p f e → ChoosesAmong plan f e n → IsOverTaps b old plan taps (reads_in plan f) (logic_levels e + (n + test_levels)) net
+  pub levels : (e : Tree) (n : ℕ) → IsBody p f e → ChoosesAmong plan f e n → IsOverTaps b old plan taps (reads_in plan f) (logic_levels e + n) net
 
 -- a number of an array of an image
 abbrev pub is_array_of : Shapes → Plan → (g x : ℕ) → Bool
@@ -83,9 +83,22 @@ direct_source form plan (OfNet (Wire k)) = false
 direct_source form plan (OfNet (Reg k)) = true
 direct_source form plan (OfArray x) = reads_directly form plan x
 
--- The most operators on a path to the net of an image with this body, whose reads choose among at most n taps, at an age of at least 1: those of the body, a choice for each tap, a frame test, and the index of a tap.
+-- The most operators on a path to the net of an image with this body, whose reads choose among at most n taps, from the nets of its live reads: those of the body, a choice for each tap, and a frame test.
+abbrev pub body_levels : Tree → (n : ℕ) → ℕ
+body_levels e n = logic_levels e + n + test_levels
+
+-- The same from rst, en, registers and arrays, at an age of at least 1: a path begins at a frame test or goes through the index of a tap, and not both.
 abbrev pub image_levels : Form → Tree → (n : ℕ) → ℕ
-image_levels form e n = logic_levels e + (n + test_levels) + form.tap_levels
+image_levels form e n = logic_levels e + n + max test_levels form.tap_levels
+
+-- the base has the taps of the live reads by image f
+abbrev pub HasTapsOf : Plan → List (List Net) → (f : ℕ) → (Holder → Bool) → Type 0
+HasTapsOf plan taps f base = (r : LiveRead) (tap : Net) → Contains (reads_in plan f) r → IsTapOf plan taps r tap → IsTrue (base (OfNet tap))
+
+-- The net of image f is made of rst, en, registers and the taps of its live reads, with at most `body_levels` operators on a path: it is made so of each base that has these.
+pub record IsOverReads (b : Netlist) (p : Program) (plan : Plan) (taps : List (List Net)) (f : ℕ) (net : Net) : Type 0 where
+  pub made : (base : Holder → Bool) → HasControl b.enable base → HasTapsOf plan taps f base → IsMadeOf b base (OfNet net)
+  pub levels : (e : Tree) (n : ℕ) → IsBody p f e → ChoosesAmong plan f e n → (base : Holder → Bool) → HasControl b.enable base → HasTapsOf plan taps f base → IsWithin b base (body_levels e n) (OfNet net)
 
 -- What has been built for image g, as the netlist b has it: its net, and its buffer by its taps. No path of assigns leads from a long array to them, except through a register.
 pub record IsLine (b : Netlist) (p : Program) (plan : Plan) (form : Form) (copies : List ℕ) (taps : List (List Net)) (g : ℕ) (net : Net) : Type 0 where
@@ -93,6 +106,7 @@ pub record IsLine (b : Netlist) (p : Program) (plan : Plan) (form : Form) (copie
   pub width : net_width b net ≡ width_of plan g
   pub input : g < length p.inputs → net ≡ din_net b g
   pub body : length p.inputs ≤ g → IsBodyNet b p plan taps g net
+  pub over : length p.inputs ≤ g → IsOverReads b p plan taps g net
   pub apart : 1 ≤ plan.system.age → length p.inputs ≤ g → IsMadeOf b (source_of form plan g b.enable) (OfNet net)
   pub levels : 1 ≤ plan.system.age → (e : Tree) (n : ℕ) → IsBody p g e → ChoosesAmong plan g e n → IsWithin b (source_of form plan g b.enable) (image_levels form e n) (OfNet net)
   pub direct : IsMadeOf b (direct_source form plan) (OfNet net)

@@ -11,5 +11,6 @@ pub mod Images
 pub mod Behaviour
 pub mod Nets
 pub mod Modules
+pub mod Registers
 pub mod Ends
 pub mod Driven

@@ -1,5 +1,5 @@
 -- The nets of the kept images in the module: which nets they are, which output shows each, and which array stores it.
-use Rattle.std.specs.Prelude.{◌≡◌, ℕ, ◌-◌, ◌<◌, ◌≤◌, Bool, ◌&&◌, ◌||◌, List, length, slice_get, Some, All, Contains}
+use Rattle.std.specs.Prelude.{◌≡◌, ℕ, ◌-◌, ◌<◌, ◌≤◌, pos, Bool, ◌&&◌, ◌||◌, IsTrue, List, length, slice_get, Some, All, Contains}
 use Rattle.dk_base.specs.Types.{width_of as bits_of_type}
 use Rattle.wiring.specs.declared.right.Atom.TheVariants as atom
 use Rattle.wiring.specs.declared.right.Right.TheVariants.{Copy}
@@ -18,15 +18,15 @@ use Rattle.net_build.specs.Control.{IsMadeOf, is_control}
 use Rattle.net_build.specs.Depth.{IsWithin}
 use Rattle.pointwise_ir.specs.Programs.{Program, IsBody}
 use Rattle.pointwise_ir.specs.Trees.{Tree}
-use Rattle.buffer_plan.specs.Plans.{Plan, depth_of}
+use Rattle.buffer_plan.specs.Plans.{Plan, depth_of, read_age}
 use Rattle.line_buffer.specs.Fills.{HasRight, IsWordOf, Takes}
 use Rattle.circuit.specs.Rounds.{type_at}
-use Rattle.circuit.specs.Taps.{Keeps}
+use Rattle.circuit.specs.Taps.{Keeps, HasControl}
 use Rattle.circuit.specs.Depths.{ChoosesAmong}
 use Rattle.circuit.specs.Reads.{reads_in}
 use Rattle.circuit.specs.Forms.{Form, first_array, end_array}
-use Rattle.circuit.specs.Images.{is_array_of, reads_directly, source_of, image_levels}
-use Rattle.circuit.specs.Behaviour.{net_of}
+use Rattle.circuit.specs.Images.{is_array_of, reads_directly, tap_source_of, source_of, body_levels, image_levels}
+use Rattle.circuit.specs.Behaviour.{net_of, read_net}
 
 -- the one assign of an output copies the net
 pub record Shows (m : Netlist) (output net : Net) : Type 0 where
@@ -62,13 +62,29 @@ abbrev pub kept_source_of : Form → Plan → (f : ℕ) → (enable : Bool) → 
 kept_source_of form plan f enable (OfNet n) = is_control enable (OfNet n)
 kept_source_of form plan f enable (OfArray x) = reads_directly form plan x && (is_array_of form.shapes plan f x || list_any (λ (r : LiveRead). is_array_of form.shapes plan r.g x) (reads_in plan f))
 
--- What image f is made of. Its net and each dout that shows it are made of rst, en, registers and the arrays of the images of which f has a live read; its logic depth is at most that of its body and of the choice among the taps of one read. What the puts of its arrays read is made of these and of its own arrays. Of all these arrays only those that are not long are read.
+-- What image f is made of. Its net and each dout that shows it are made of rst, en, registers and the arrays of the images of which f has a live read, with at most `image_levels` operators on a path. What the puts of its arrays read is made of these and of its own arrays. Of all these arrays only those that are not long are read.
 pub record IsImageApart (m : Netlist) (p : Program) (plan : Plan) (form : Form) (nets : List Net) (f : ℕ) : Type 0 where
   pub net : IsMadeOf m (source_of form plan f m.enable) (OfNet (net_of plan nets f))
   pub levels : (e : Tree) (n : ℕ) → IsBody p f e → ChoosesAmong plan f e n → IsWithin m (source_of form plan f m.enable) (image_levels form e n) (OfNet (net_of plan nets f))
   pub dout : (k : ℕ) → slice_get p.outputs k ≡ Some f → IsMadeOf m (source_of form plan f m.enable) (OfNet (dout_net k))
+  pub dout_levels : (k : ℕ) (e : Tree) (n : ℕ) → slice_get p.outputs k ≡ Some f → IsBody p f e → ChoosesAmong plan f e n → IsWithin m (source_of form plan f m.enable) (image_levels form e n) (OfNet (dout_net k))
   pub put : (x : ℕ) (u : Update) → first_array form.shapes plan f ≤ x → x < end_array form.shapes plan f → Contains m.updates u → update_target u ≡ OfArray x → All (IsMadeOf m (kept_source_of form plan f m.enable)) (update_reads u)
 
 -- At an age of at least 1 this holds of each kept image that is not an input. So no path of assigns passes through two images. No path leads from a din to a dout, unless the dout shows an input.
 abbrev pub IsApart : Netlist → Program → Plan → Form → List Net → Type 0
 IsApart m p plan form nets = 1 ≤ plan.system.age → (f : ℕ) → Keeps plan f → length p.inputs ≤ f → IsImageApart m p plan form nets f
+
+-- the base has the nets of the live reads by image f
+abbrev pub HasReadNets : Plan → (reads : List Net) → (f : ℕ) → (Holder → Bool) → Type 0
+HasReadNets plan reads f base = (k : ℕ) (r : LiveRead) → slice_get plan.system.stencils.reads k ≡ Some r → r.f ≡ f → IsTrue (base (OfNet (read_net reads k)))
+
+-- Image f is computed from what it reads: its net is made of rst, en, registers and the nets of its live reads, with at most `body_levels` operators on a path. It is made so of each base that has these.
+pub record IsComputed (m : Netlist) (p : Program) (plan : Plan) (reads : List Net) (f : ℕ) (net : Net) : Type 0 where
+  pub made : (base : Holder → Bool) → HasControl m.enable base → HasReadNets plan reads f base → IsMadeOf m base (OfNet net)
+  pub levels : (e : Tree) (n : ℕ) → IsBody p f e → ChoosesAmong plan f e n → (base : Holder → Bool) → HasControl m.enable base → HasReadNets plan reads f base → IsWithin m base (body_levels e n) (OfNet net)
+
+-- At each age the images that are no inputs are computed from what they read. The net of a live read of age 0 is that of the image that is read. One of a greater age is made of rst, en, registers and the arrays of this image that are not long.
+pub record AreComputed (m : Netlist) (p : Program) (plan : Plan) (form : Form) (nets reads : List Net) : Type 0 where
+  pub image : (f : ℕ) → Keeps plan f → length p.inputs ≤ f → IsComputed m p plan reads f (net_of plan nets f)
+  pub now : (k : ℕ) (r : LiveRead) → slice_get plan.system.stencils.reads k ≡ Some r → read_age plan r ≡ pos 0 → read_net reads k ≡ net_of plan nets r.g
+  pub later : (k age : ℕ) (r : LiveRead) → slice_get plan.system.stencils.reads k ≡ Some r → read_age plan r ≡ pos age → 0 < age → IsWithin m (tap_source_of form plan r.g m.enable) form.tap_levels (OfNet (read_net reads k))

@@ -67,7 +67,7 @@ pub record IsChoice (b first : Netlist) (plan : Plan) (taps : List (List Net)) (
   pub width : IfSome choice (λ n. net_width b n ≡ bits)
   pub value : AtEachPixel b (size_in plan) (delay_of plan f) (λ x y s. IsChosen (size_in plan) plan taps reads leaf x y s (worth_of s choice))
   pub made : IfSome choice (IsMadeOfTaps b first plan taps reads)
-  pub levels : (n : ℕ) → MeansAtMost (size_in plan) leaf reads n → IfSome choice (IsOverTaps b first plan taps reads (n + test_levels))
+  pub levels : (n : ℕ) → MeansAtMost (size_in plan) leaf reads n → IfSome choice (IsOverTaps b first plan taps reads n)
 
 -- The net of a read by image f: of all live reads by f of the image that is read, it is the tap of one by whose offset the steps lead, and 0 where they lead by none. On a path it has one choice for each live read that may be meant, and a test before them.
 pub record IsReadNet (b first : Netlist) (plan : Plan) (taps : List (List Net)) (f : ℕ) (leaf : LeafRead) (bits : ℕ) (net : Net) : Type 0 where
@@ -75,7 +75,7 @@ pub record IsReadNet (b first : Netlist) (plan : Plan) (taps : List (List Net)) 
   pub width : net_width b net ≡ bits
   pub value : AtEachPixel b (size_in plan) (delay_of plan f) (λ x y s. IsChosen (size_in plan) plan taps (reads_in plan f) leaf x y s (net_value s net))
   pub made : IsMadeOfTaps b first plan taps (reads_in plan f) net
-  pub levels : (n : ℕ) → MeansAtMost (size_in plan) leaf (reads_in plan f) n → IsOverTaps b first plan taps (reads_in plan f) (n + test_levels) net
+  pub levels : (n : ℕ) → MeansAtMost (size_in plan) leaf (reads_in plan f) n → IsOverTaps b first plan taps (reads_in plan f) n net
 
 -- A bit of image f that is 1 in the pixels that pass, and made only of rst, en and registers, with at most `test_levels` operators.
 pub record IsPixelTest (b : Netlist) (plan : Plan) (f : ℕ) (passes : (x y : ℕ) → Type 0) (net : Net) : Type 0 where

@@ -10,8 +10,9 @@ ghost use Rattle.circuit.specs.Forms.{shapes_of, HasProperty};
 ghost use Rattle.circuit.specs.Taps.{HaveTaps, AreTapsOf};
 ghost use Rattle.circuit.specs.Images.{AreBuiltWith};
 ghost use Rattle.circuit.specs.Behaviour.{HasPorts, AreReadNets};
-ghost use Rattle.circuit.specs.Nets.{IsApart};
+ghost use Rattle.circuit.specs.Nets.{IsApart, AreComputed};
 ghost use Rattle.circuit.specs.Modules.{IsModuleOf};
+ghost use Rattle.circuit.specs.Registers.{CountsRegisters, HasRegisters};
 ghost use Rattle.circuit.specs.Ends.{CanEnd, IsClosed};
 
 use crate::forms::BufferForm;
@@ -89,15 +90,18 @@ pub fn finished<F: BufferForm>(
 ) -> Result<Built, OutOfMemory>
     requires stencils { AreStencilsOf ir.now plan.now.system.stencils }
     requires built { AreBuiltWith b ir.now plan.now (F.form form.now) (length plan.now.system.stencils.images) images.nets.items images.taps.items images.tests }
+    requires registers { CountsRegisters b ir.now plan.now (F.form form.now).long images.turns images.tests }
     ensures ports { IfOk result (λ r. HasPorts r.module.netlist ir.now b.enable) }
     ensures named { IfOk result (λ r. r.module.names ≡ names_for r.module.netlist) }
     ensures whole { IfOk result (λ r. IsWhole r.module.netlist r.module.netlist) }
     ensures runs { IfOk result (λ r. RunsOn r.module.netlist) }
     ensures circuit { IfOk result (λ r. IsModuleOf r.module.netlist ir.now plan.now (F.form form.now) r.nets.items) }
     ensures reads { IfOk result (λ r. AreReadNets r.module.netlist ir.now plan.now r.reads.items) }
+    ensures computed { IfOk result (λ r. AreComputed r.module.netlist ir.now plan.now (F.form form.now) r.nets.items r.reads.items) }
     ensures arrays { IfOk result (λ r. r.module.netlist.arrays ≡ shapes_of (F.form form.now).shapes plan.now plan.now.system.stencils.images) }
     ensures property { IfOk result (λ r. HasProperty r.module.netlist (F.form form.now).property) }
     ensures apart { IfOk result (λ r. IsApart r.module.netlist ir.now plan.now (F.form form.now) r.nets.items) }
+    ensures registers { IfOk result (λ r. HasRegisters r.module.netlist ir.now plan.now (F.form form.now).long) }
 {
     plan.law();
     let reads = read_nets(images.alloc, plan, &images.taps)?;

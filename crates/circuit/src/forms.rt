@@ -5,7 +5,7 @@ ghost use Rattle.wiring.specs.Netlist.{net_width};
 ghost use Rattle.net_build.specs.Includes.{Includes};
 ghost use Rattle.net_build.specs.Draft.{IsNet};
 ghost use Rattle.buffer_plan.specs.Plans.{width_of, depth_of};
-ghost use Rattle.line_buffer.specs.SharedCounters.{AreTurns};
+ghost use Rattle.line_buffer.specs.SharedCounters.{AreTurns, CountsTurns};
 ghost use Rattle.circuit.specs.Taps.{Keeps};
 ghost use Rattle.circuit.specs.Forms.{Form, IsBuffered, shapes_before, chain_form, block_form, ring_form};
 
@@ -20,6 +20,13 @@ use std::alloc::Global;
 use std::marker::Model;
 use wiring::Net;
 
+/// A kept image, with its net.
+#[derive(Clone, Copy, Debug)]
+pub struct ImageNet {
+    pub image: u32,
+    pub net: Net,
+}
+
 /// A way to keep the last pixels of the images of a plan.
 pub trait BufferForm {
     /// The arrays that are added for an image, which word holds the pixel of an age of an image at a clock, which arrays are long, and what each array keeps.
@@ -33,24 +40,24 @@ pub trait BufferForm {
         ensures array { result.array ≡ ((form self.now).places plan.now image age clock).array }
         ensures word { result.word ≡ ((form self.now).places plan.now image age clock).word };
 
-    /// Adds the buffer of a kept image whose net is `value`, after those of the kept images before it. Arrays of the same number of words share a counter, among those in `turns` and new ones.
+    /// Adds the buffer of a kept image to its net, after those of the kept images before it. Arrays of the same number of words share a counter, among those in `turns` and new ones.
     fn add(
         &self,
         alloc: Global,
         plan: &Plan,
-        image: u32,
-        value: Net,
+        own: ImageNet,
         b: &mut Builder,
         turns: &mut Turns,
     ) -> Result<Taps, OutOfMemory>
-        requires kept { Keeps plan.now image }
-        requires net { IsNet b.old value }
-        requires width { net_width b.old value ≡ width_of plan.now image }
-        requires arrays { b.old.arrays ≡ shapes_before (form self.now).shapes plan.now image }
+        requires kept { Keeps plan.now own.image }
+        requires net { IsNet b.old own.net }
+        requires width { net_width b.old own.net ≡ width_of plan.now own.image }
+        requires arrays { b.old.arrays ≡ shapes_before (form self.now).shapes plan.now own.image }
         requires turns { AreTurns b.old turns.old }
         ensures includes { Includes b.new b.old }
         ensures turns { OnOk result (AreTurns b.new turns.new) }
-        ensures buffered { IfOk result (IsBuffered b.new b.old plan.now image (form self.now) value) };
+        ensures counts { OnOk result (CountsTurns b.new b.old turns.new turns.old (form self.now).long ((form self.now).shapes plan.now own.image)) }
+        ensures buffered { IfOk result (IsBuffered b.new b.old plan.now own.image (form self.now) own.net) };
 }
 
 /// A ring of words for each image whose depth is above 0, which is read once for each age.
@@ -102,18 +109,17 @@ impl BufferForm for Ring {
         &self,
         alloc: Global,
         plan: &Plan,
-        image: u32,
-        value: Net,
+        own: ImageNet,
         b: &mut Builder,
         turns: &mut Turns,
     ) -> Result<Taps, OutOfMemory> {
         plan.law();
-        let own = BufferedImage {
-            net: value,
-            width: plan.width(image),
-            ages: plan.ages(image),
+        let buffered = BufferedImage {
+            net: own.net,
+            width: plan.width(own.image),
+            ages: plan.ages(own.image),
         };
-        let nets = ring(alloc, b, turns, own)?;
+        let nets = ring(alloc, b, turns, buffered)?;
         Ok(Taps::new(nets))
     }
 }
@@ -129,18 +135,17 @@ impl BufferForm for Chain {
         &self,
         alloc: Global,
         plan: &Plan,
-        image: u32,
-        value: Net,
+        own: ImageNet,
         b: &mut Builder,
         turns: &mut Turns,
     ) -> Result<Taps, OutOfMemory> {
         plan.law();
-        let own = BufferedImage {
-            net: value,
-            width: plan.width(image),
-            ages: plan.ages(image),
+        let buffered = BufferedImage {
+            net: own.net,
+            width: plan.width(own.image),
+            ages: plan.ages(own.image),
         };
-        let nets = chain(alloc, b, turns, own)?;
+        let nets = chain(alloc, b, turns, buffered)?;
         Ok(Taps::new(nets))
     }
 }
@@ -156,20 +161,19 @@ impl BufferForm for BlockChain {
         &self,
         alloc: Global,
         plan: &Plan,
-        image: u32,
-        value: Net,
+        own: ImageNet,
         b: &mut Builder,
         turns: &mut Turns,
     ) -> Result<Taps, OutOfMemory> {
         plan.law();
-        let split = split_of(plan, &self.proposed, image);
-        let own = BufferedImage {
-            net: value,
-            width: plan.width(image),
+        let split = split_of(plan, &self.proposed, own.image);
+        let buffered = BufferedImage {
+            net: own.net,
+            width: plan.width(own.image),
             ages: split,
         };
-        let nets = block_chain(alloc, b, turns, own, self.least)?;
-        let taps = taps_among(alloc, plan.ages(image), split, &nets, value)?;
+        let nets = block_chain(alloc, b, turns, buffered, self.least)?;
+        let taps = taps_among(alloc, plan.ages(own.image), split, &nets, own.net)?;
         Ok(Taps::new(taps))
     }
 }

@@ -21,7 +21,7 @@ mod taps;
 mod valid;
 
 pub use finishing::Built;
-pub use forms::{BlockChain, BufferForm, Chain, Ring};
+pub use forms::{BlockChain, BufferForm, Chain, ImageNet, Ring};
 pub use laws::frame_drive_law;
 pub use making::{build, build_with};
 pub use options::Options;

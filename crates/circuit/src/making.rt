@@ -8,11 +8,12 @@ ghost use Rattle.line_buffer.specs.SharedCounters.{AreTurns};
 ghost use Rattle.circuit.specs.Forms.{shapes_of, HasProperty};
 ghost use Rattle.circuit.specs.Images.{AreBuiltWith};
 ghost use Rattle.circuit.specs.Behaviour.{IsPlanOf, HasPorts, AreReadNets};
-ghost use Rattle.circuit.specs.Nets.{IsApart};
+ghost use Rattle.circuit.specs.Nets.{IsApart, AreComputed};
 ghost use Rattle.circuit.specs.Modules.{IsModuleOf};
+ghost use Rattle.circuit.specs.Registers.{CountsRegisters, HasRegisters};
 
 use crate::finishing::{Built, BuiltImages, finished};
-use crate::forms::BufferForm;
+use crate::forms::{BufferForm, ImageNet};
 use crate::images::image_net;
 use crate::options::Options;
 use crate::ports::begun;
@@ -38,9 +39,11 @@ fn add_image<F: BufferForm>(
     requires within { k < length plan.now.system.stencils.images }
     requires turns { AreTurns b.old images.old.turns }
     requires built { AreBuiltWith b.old ir.now plan.now (F.form form.now) k images.old.nets.items images.old.taps.items images.old.tests }
+    requires registers { CountsRegisters b.old ir.now plan.now (F.form form.now).long images.old.turns images.old.tests }
     ensures enable { OnOk result (b.new.enable ≡ b.old.enable) }
     ensures turns { OnOk result (AreTurns b.new images.new.turns) }
     ensures built { OnOk result (AreBuiltWith b.new ir.now plan.now (F.form form.now) (suc k) images.new.nets.items images.new.taps.items images.new.tests) }
+    ensures registers { OnOk result (CountsRegisters b.new ir.now plan.now (F.form form.now).long images.new.turns images.new.tests) }
 {
     plan.law();
     let image = plan.images()[k].number;
@@ -52,7 +55,13 @@ fn add_image<F: BufferForm>(
     };
     let net = image_net(images.alloc, b, &reader, &mut images.tests)?;
     b.law();
-    let own = form.add(images.alloc, plan, image, net, b, &mut images.turns)?;
+    let own = form.add(
+        images.alloc,
+        plan,
+        ImageNet { image, net },
+        b,
+        &mut images.turns,
+    )?;
     b.law();
     images.nets.push(net)?;
     images.taps.push(own)?;
@@ -70,8 +79,10 @@ fn add_images<F: BufferForm>(
     requires stencils { AreStencilsOf ir.now plan.now.system.stencils }
     requires turns { AreTurns b.old images.old.turns }
     requires built { AreBuiltWith b.old ir.now plan.now (F.form form.now) 0 images.old.nets.items images.old.taps.items images.old.tests }
+    requires registers { CountsRegisters b.old ir.now plan.now (F.form form.now).long images.old.turns images.old.tests }
     ensures enable { OnOk result (b.new.enable ≡ b.old.enable) }
     ensures built { OnOk result (AreBuiltWith b.new ir.now plan.now (F.form form.now) (length plan.now.system.stencils.images) images.new.nets.items images.new.taps.items images.new.tests) }
+    ensures registers { OnOk result (CountsRegisters b.new ir.now plan.now (F.form form.now).long images.new.turns images.new.tests) }
 {
     for k in 0..plan.images().len() {
         add_image(b, ir, plan, form, images, k)?;
@@ -94,9 +105,11 @@ pub fn build_with<F: BufferForm>(
     ensures runs { IfOk result (λ r. RunsOn r.module.netlist) }
     ensures circuit { IfOk result (λ r. IsModuleOf r.module.netlist ir.now plan.now (F.form form.now) r.nets.items) }
     ensures reads { IfOk result (λ r. AreReadNets r.module.netlist ir.now plan.now r.reads.items) }
+    ensures computed { IfOk result (λ r. AreComputed r.module.netlist ir.now plan.now (F.form form.now) r.nets.items r.reads.items) }
     ensures arrays { IfOk result (λ r. r.module.netlist.arrays ≡ shapes_of (F.form form.now).shapes plan.now plan.now.system.stencils.images) }
     ensures property { IfOk result (λ r. HasProperty r.module.netlist (F.form form.now).property) }
     ensures apart { IfOk result (λ r. IsApart r.module.netlist ir.now plan.now (F.form form.now) r.nets.items) }
+    ensures registers { IfOk result (λ r. HasRegisters r.module.netlist ir.now plan.now (F.form form.now).long) }
 {
     let mut b = begun(alloc, ir, options.enable)?;
     let nets = Vec::new(alloc);
@@ -128,6 +141,7 @@ pub fn build<F: BufferForm>(
     ensures runs { IfOk result (λ r. RunsOn r.module.netlist) }
     ensures circuit { IfOk result (λ r. IsModuleOf r.module.netlist ir.now plan.now (F.form form.now) r.nets.items) }
     ensures reads { IfOk result (λ r. AreReadNets r.module.netlist ir.now plan.now r.reads.items) }
+    ensures computed { IfOk result (λ r. AreComputed r.module.netlist ir.now plan.now (F.form form.now) r.nets.items r.reads.items) }
     ensures arrays { IfOk result (λ r. r.module.netlist.arrays ≡ shapes_of (F.form form.now).shapes plan.now plan.now.system.stencils.images) }
     ensures property { IfOk result (λ r. HasProperty r.module.netlist (F.form form.now).property) }
 {

@@ -1,11 +1,13 @@
 // The outputs of a circuit: for each when it is valid, and what it shows.
 
-ghost use Rattle.std.specs.Prelude.{◌≡◌, ℕ, ◌<◌, IfOk, OnOk, IfSome, IfNone, length};
+ghost use Rattle.std.specs.Prelude.{◌≡◌, ℕ, ◌+◌, ◌<◌, IfOk, OnOk, IfSome, IfNone, length};
 ghost use Rattle.dk_base.specs.FrameSizes.{size_of};
+ghost use Rattle.net_build.specs.Registers.{register_bits};
 ghost use Rattle.edge_select.specs.FrameTests.{AddsTests, AreFrameTests};
 ghost use Rattle.buffer_plan.specs.Plans.{latency_of};
 ghost use Rattle.circuit.specs.Behaviour.{net_of};
 ghost use Rattle.circuit.specs.Ends.{AreOuts, output_in, AreValids, IsValidOf, IsOut, IsSharedBy, AreShared};
+ghost use Rattle.circuit.specs.Registers.{latencies, latency_bits, AddsLatency};
 
 use crate::valid::valid_from;
 use buffer_plan::Plan;
@@ -43,6 +45,7 @@ fn valid_behind(
     requires valids { AreValids b.old plan.now outs.now }
     requires share { AreShared plan.now outs.now }
     ensures adds { OnOk result (AddsTests b.new b.old tests.now tests.now) }
+    ensures bits { OnOk result (AddsLatency b.new b.old plan.now tests.now (length outs.now)) }
     ensures valid { IfOk result (IsValidOf b.new plan.now (length outs.now)) }
     ensures shared { IfOk result (IsSharedBy plan.now outs.now (length outs.now)) }
 {
@@ -80,6 +83,7 @@ fn out_behind(
     requires outs { AreOuts b.old plan.now nets.now (length outs.now) outs.now }
     requires share { AreShared plan.now outs.now }
     ensures adds { OnOk result (AddsTests b.new b.old tests.now tests.now) }
+    ensures bits { OnOk result (AddsLatency b.new b.old plan.now tests.now (length outs.now)) }
     ensures out { IfOk result (IsOut b.new plan.now nets.now (length outs.now)) }
     ensures shared { IfOk result (λ out. IsSharedBy plan.now outs.now (length outs.now) out.0) }
 {
@@ -99,6 +103,7 @@ pub fn all_outs(
     requires tests { AreFrameTests b.old (size_of tests.now.size) tests.now }
     requires count { length nets.now ≡ length plan.now.system.stencils.images }
     ensures adds { OnOk result (AddsTests b.new b.old tests.now tests.now) }
+    ensures bits { OnOk result (register_bits b.new ≡ register_bits b.old + latency_bits tests.now (latencies plan.now)) }
     ensures outs { IfOk result (λ outs. AreOuts b.new plan.now nets.now (length plan.now.system.stencils.outputs) outs.items) }
     ensures share { IfOk result (λ outs. AreShared plan.now outs.items) }
 {

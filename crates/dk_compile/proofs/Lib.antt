@@ -20,6 +20,7 @@ pub mod Rounds
 pub mod Printed
 pub mod Circuits
 pub mod Same
+mod Deep
 pub mod Packing
 pub mod Widened
 pub mod Narrowed

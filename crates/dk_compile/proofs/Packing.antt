@@ -38,6 +38,7 @@ use Rattle.circuit.specs.Behaviour.{HasPorts, ShowsPixels, net_of, read_net, Are
 use Rattle.circuit.specs.Driven.{Drives, input_widths, driven}
 use Rattle.circuit.proofs.Driven.{zeros_fit, given_fits, fed_fit}
 use Rattle.dk_compile.specs.Circuits.{IsCircuitOf, form_with}
+use Rattle.dk_compile.proofs.Deep.{packed_within}
 use Rattle.dk_compile.specs.Packed.{ShowsImage, BehavesAs, IsPackedCircuitOf}
 
 -- a net of the circuit has its value in the module too
@@ -169,6 +170,8 @@ packed_circuit p plan enable block m old slots nets reads order program rules or
   circuit = circuit;
   slots = slots;
   packing = packing;
+  registers = packing.packed.regs;
+  depth = λ base wide nets_in arrays_in n net is. packed_within m old slots packing.packed base wide nets_in arrays_in n net is;
   none = none;
   behaves = behaves_alike m old v sim whole circuit.whole p plan (form_with block circuit.splits).places circuit.copies nets reads (λ c d fits other same. contents_seen m old slots packing.filled c d fits other same) (packed_nets old slots) circuit.behaves circuit.nets_are.there circuit.reads_are;
 }

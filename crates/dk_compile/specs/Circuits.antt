@@ -9,8 +9,9 @@ use Rattle.buffer_plan.specs.Plans.{Plan, bits_of}
 use Rattle.line_buffer.specs.Indices.{IsReadAndPut, is_long, is_direct}
 use Rattle.circuit.specs.Forms.{Form, chain_form, block_form, shapes_of}
 use Rattle.circuit.specs.Behaviour.{HasPorts, AreReadNets, Behaves}
-use Rattle.circuit.specs.Nets.{AreNetsOf, IsApart}
+use Rattle.circuit.specs.Nets.{AreNetsOf, AreComputed, IsApart}
 use Rattle.circuit.specs.Modules.{CopyLongArrays, HasBits, ReadsDirectly}
+use Rattle.circuit.specs.Registers.{HasRegisters}
 use Rattle.circuit.specs.Driven.{Drives}
 
 -- The form of the buffers: a chain of segments for each buffered image. With a number, the arrays of at least this number of words are long, and a chain is over the ages that are proposed for it where they make a finer one.
@@ -45,5 +46,9 @@ pub record IsCircuitOf (p : Program) (plan : Plan) (enable : Bool) (block : Opti
   pub reads_are : AreReadNets m p plan reads
   -- no path of gates leads from an array that has a copy to anything but its copy
   pub direct : ReadsDirectly m p plan (form_with block splits) copies nets
-  -- at an age of at least 1 no path of gates passes through two images
+  -- each image is computed from what it reads: its net is made of the nets of its live reads, with a bounded number of operators on a path
+  pub computed : AreComputed m p plan (form_with block splits) nets reads
+  -- at an age of at least 1 no path of gates passes through two images, and each has a bounded number of operators
   pub apart : IsApart m p plan (form_with block splits) nets
+  -- the registers have the bits that the arrays, the latencies and the frame tests need, and no other
+  pub registers : HasRegisters m p plan (is_long block)

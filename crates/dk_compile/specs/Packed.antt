@@ -2,11 +2,14 @@
 use Rattle.std.specs.Prelude.{◌≡◌, ℕ, ◌+◌, ◌<◌, pos, IsTrue, Bool, Option, None, List, ◌∷◌, length, slice_get, Some}
 use Rattle.dk_base.specs.declared.stencils.LiveRead.{LiveRead}
 use Rattle.wiring.specs.declared.netlist.Net.{Net}
+use Rattle.wiring.specs.declared.netlist.Holder.{Holder}
+use Rattle.wiring.specs.declared.netlist.Holder.TheVariants.{OfNet, OfArray}
 use Rattle.wiring.specs.Netlist.{Netlist, valid_net, dout_net}
 use Rattle.wiring.specs.Snapshot.{Contents, Snapshot, IsNext, net_value}
 use Rattle.wiring.specs.Clock.{Clock, bit}
 use Rattle.wiring.specs.History.{was_reset, is_held, counted}
 use Rattle.net_build.specs.Runs.{IsClockOf, IsWhole, RunsOn, IsReady}
+use Rattle.net_build.specs.Depth.{IsWithin}
 use Rattle.array_packing.specs.declared.slots.Slot.{Slot}
 use Rattle.module_pass.specs.Simulation.{View}
 use Rattle.array_packing.specs.Packing.{IsPacking, packed}
@@ -44,6 +47,12 @@ pub record BehavesAs (m : Netlist) (view : View) (p : Program) (plan : Plan) (pl
   -- no state changes in a held clock: in none at all if there are no copies, and else in none after a reset
   pub held : (from : Contents) (before : List Clock) (c : Clock) (s : Snapshot) → IsClockOf m m from before c s → IsReady copies before → IsTrue (is_held m c) → (next : Contents) → IsNext m s next → next ≡ s.contents
 
+-- Packing adds no operator: a net of the circuit is made in the module of the same nets, and of the arrays in which those of the circuit are, with no more operators on a path.
+abbrev pub KeepsDepth : (new old : Netlist) → List Slot → Type 0
+KeepsDepth new old slots =
+    (base wide : Holder → Bool) → ((x : Net) → IsTrue (base (OfNet x)) → IsTrue (wide (OfNet x))) → ((x : ℕ) (k : Slot) → slice_get slots x ≡ Some k → IsTrue (base (OfArray x)) → IsTrue (wide (OfArray k.array)))
+    → (n : ℕ) (net : Net) → IsWithin old base n (OfNet net) → IsWithin new wide n (OfNet net)
+
 -- The module of a program under a plan. There is a circuit of which everything is claimed, and the module is this circuit with its arrays packed. What the module does in its runs is claimed of the module itself.
 pub record IsPackedCircuitOf (p : Program) (plan : Plan) (enable : Bool) (block : Option ℕ) (m : Netlist) (nets reads : List Net) : Type 0 where
   pub ports : HasPorts m p enable
@@ -58,6 +67,9 @@ pub record IsPackedCircuitOf (p : Program) (plan : Plan) (enable : Bool) (block 
   -- where each array of the circuit is in the module
   pub slots : List Slot
   pub packing : IsPacking m unpacked slots
+  -- no register and no operator is added
+  pub registers : m.regs ≡ unpacked.regs
+  pub depth : KeepsDepth m unpacked slots
   -- without a number the module is the circuit
   pub none : block ≡ None → m ≡ unpacked
   -- and what it does over any clocks

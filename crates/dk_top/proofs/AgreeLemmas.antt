@@ -61,7 +61,7 @@ filled_places : (fill : Fill) (m : Netlist) → HasPlaces m (filled_contents fil
 filled_places fill m = record { regs = length-map m.regs (fill_value fill); arrays = length-map m.arrays (filled_words fill) }
 
 -- two plans of a text at an age are one
-plan_once : Laws → (source : List ℕ) (age : ℕ) (p q : Typing) (a b : Program) (s t : System) (x y : Solution) (plan other : Plan) → IsPlanned source age p a s x plan → IsPlanned source age q b t y other → plan ≡ other
+pub plan_once : Laws → (source : List ℕ) (age : ℕ) (p q : Typing) (a b : Program) (s t : System) (x y : Solution) (plan other : Plan) → IsPlanned source age p a s x plan → IsPlanned source age q b t y other → plan ≡ other
 plan_once laws source age p q a b s t x y plan other one two =
     let same : s ≡ t = laws.one_system source age p q a b s t one.has two.has in
     let vector : IsLeastVector t x.delays = subst (λ z. IsLeastVector z x.delays) same (one.solved).vector in
@@ -100,7 +100,7 @@ module _ (laws : Laws) (source : List ℕ) (age : ℕ) (enable : Bool) (block : 
   given_clocks = stimulus (drive_from fill clocks) (din_widths m) (samples_of rounds)
 
   -- the module runs over all clocks
-  ran : (shots : List Snapshot) × (to : Contents) × Runs m begin given_clocks shots to
+  pub ran : (shots : List Snapshot) × (to : Contents) × Runs m begin given_clocks shots to
   ran = by (laws.some_run m (laws.valuation m from.is.circuit.whole.order from.is.circuit.whole.rules from.is.circuit.whole.ordered) (laws.next m from.is.circuit.whole.rules) begin given_clocks (filled_places fill m))
     where
       by : ((shots : List Snapshot) × (to : Contents) × Runs m begin given_clocks shots to) ⊎ ((shots : List Snapshot) × (x : ℕ) × (i : ℕ) × RunStops m begin given_clocks shots x i)

@@ -28,6 +28,7 @@ use Rattle.dk_top.specs.Reading.{AreRead, IsInputOf}
 use Rattle.dk_top.proofs.VerdictLemmas.{OneProgram}
 use Rattle.dk_top.proofs.ReadLemmas.{ports_same}
 use Rattle.dk_top.proofs.DriveShown.{PictureLaw, RasterLaw}
+use Rattle.dk_top.proofs.NoteLaws.{NotesLaw, every_of}
 use Rattle.dk_top.proofs.DriveLemmas.{bench_frames, bench_rounds, never_stops, drive_file, drive_of}
 
 -- what is said of a module, a drive, a size and rounds is said of the same ones by other names
@@ -67,14 +68,18 @@ module _ (source : List ℕ) (age : ℕ) (c : Compiled) (from : IsCompiledFrom s
           drive_file source age false None q c.ir c.system c.solution c.plan c.«module» c.nets.items c.reads.items c.text.items from.is file images fits Zeros picture_law raster_law clocks refl output
           (moved (λ n e s x. IsShown n.netlist e s x output) m c.«module» d (drive_of clocks) size q.size (rounds_of rounds) (samples_of images) again (same_drive d is) same_size same_rounds h)
 
-      noted : (old new : Option (List (Bool × ℕ))) (notes : List (Bool × ℕ)) → AreNotes m.netlist d (rounds_of rounds) notes → IsIfTold new (option_map (λ before. before ++ notes) old) → NotesRun source age q images old new
-      noted old new notes h told = record {
-        compiled = c;
-        from = from;
-        gained = notes;
-        run = moved (λ n e s x. AreNotes n.netlist e x notes) m c.«module» d (drive_of clocks) size q.size (rounds_of rounds) (samples_of images) again (same_drive d is) same_size same_rounds h;
-        told = told;
-      }
+      noted : NotesLaw → (old new : Option (List (Bool × ℕ))) (notes : List (Bool × ℕ)) → AreNotes m.netlist d (rounds_of rounds) notes → IsIfTold new (option_map (λ before. before ++ notes) old) → NotesRun source age q images old new
+      noted law old new notes h told =
+          let run : AreNotes (c.«module»).netlist (drive_of clocks) (samples_of images) notes =
+          moved (λ n e s x. AreNotes n.netlist e x notes) m c.«module» d (drive_of clocks) size q.size (rounds_of rounds) (samples_of images) again (same_drive d is) same_size same_rounds h in
+          record {
+            compiled = c;
+            from = from;
+            gained = notes;
+            run = run;
+            every = every_of law source file age c from images fits notes run;
+            told = told;
+          }
 
   -- the rounds that were read fit
   there : (read : AreRead c.ir rounds) → FitsFile (ports q) read.file read.images
@@ -101,6 +106,6 @@ module _ (one : OneProgram) (picture_law : PictureLaw) (raster_law : RasterLaw) 
   pub shown_of : (output : List ℕ) → IsShown m.netlist d size (rounds_of rounds) output → OfPair (run_terms age) source file (λ p images. output ≡ output_file p images)
   shown_of output h = of_pair (λ p images. output ≡ output_file p images) (λ images fits frames. shown source age c from m size rounds again sized file images fits frames picture_law raster_law d is output h)
 
-  pub noted_of : (old new : Option (List (Bool × ℕ))) (notes : List (Bool × ℕ)) → AreNotes m.netlist d (rounds_of rounds) notes → IsIfTold new (option_map (λ before. before ++ notes) old)
+  pub noted_of : NotesLaw → (old new : Option (List (Bool × ℕ))) (notes : List (Bool × ℕ)) → AreNotes m.netlist d (rounds_of rounds) notes → IsIfTold new (option_map (λ before. before ++ notes) old)
       → OfPair (run_terms age) source file (λ p images. NotesRun source age p images old new)
-  noted_of old new notes h told = of_pair (λ p images. NotesRun source age p images old new) (λ images fits frames. noted source age c from m size rounds again sized file images fits frames picture_law raster_law d is old new notes h told)
+  noted_of law old new notes h told = of_pair (λ p images. NotesRun source age p images old new) (λ images fits frames. noted source age c from m size rounds again sized file images fits frames picture_law raster_law d is law old new notes h told)

@@ -1,12 +1,13 @@
 -- A compiled module that is driven with the rounds of a file shows the program's output file.
-use Rattle.std.proofs.Common.{◌≡◌, ℕ, zero, suc, ◌+◌, ◌-◌, ◌*◌, ◌^◌, ◌<◌, ◌≤◌, Bool, List, [], ◌∷◌, length, map, take, drop, get_or, Option, Some, None, slice_get, slice_index, slice_index_or, refl, sym, ap, ◌∙◌, subst, arith, add-mul, suc-mul, zero-add, mul-pos, mul-le-mul_right}
+use Rattle.std.proofs.Common.{◌≡◌, ℕ, zero, suc, ◌+◌, ◌-◌, ◌*◌, ◌/◌, ◌^◌, ◌<◌, ◌≤◌, Bool, List, [], ◌∷◌, length, map, take, drop, get_or, Option, Some, None, slice_get, slice_index, slice_index_or, ◌==◌, nat_lt, ℤ, pos, refl, sym, ap, ◌∙◌, subst, arith, add-mul, suc-mul, zero-add, mul-pos, mul-le-mul_right}
 use Rattle.std.specs.List.{flat_map, All, range_with_len, AllZip}
 use Rattle.std.proofs.lemmas.List.{length-map, length-append, length-replicate, length-take-le}
 use Rattle.std.proofs.lemmas.List.Elements.{All-map}
 use Rattle.std.proofs.lemmas.List.FromFn.{get_or-map-range_with_len, length-map-range_with_len}
+use Rattle.std.proofs.lemmas.Nat.{div_below}
 use Rattle.std.proofs.lemmas.Option.{slice_get_within}
 use Rattle.dk_base.specs.Types.{width_of}
-use Rattle.dk_base.specs.Frames.{area, raster, picture_of, picture_at}
+use Rattle.dk_base.specs.Frames.{Size, Picture, area, column, row, pixel_of, raster, picture_of, picture_at}
 use Rattle.dk_base.proofs.Rasters.{length-raster}
 use Rattle.dk_types.specs.declared.typed.TypedInput.{TypedInput}
 use Rattle.dk_types.specs.Typed.{Typing, types_of}
@@ -14,17 +15,19 @@ use Rattle.dk_types.specs.Kept.{IsTyped}
 use Rattle.dk_types.specs.Meaning.{meaning, meaning_on}
 use Rattle.dk_types.proofs.Kept.{typed_is_kept}
 use Rattle.wiring.specs.declared.netlist.Net.{Net}
-use Rattle.wiring.specs.Netlist.{net_width, dout_net}
-use Rattle.wiring.specs.Snapshot.{Snapshot, Fit}
+use Rattle.wiring.specs.Netlist.{Netlist, net_width, valid_net, dout_net}
+use Rattle.wiring.specs.Snapshot.{Contents, Snapshot, Fit, net_value}
+use Rattle.wiring.specs.Clock.{Clock}
 use Rattle.wiring.specs.Runs.{Runs, RunStops, picture}
 use Rattle.wiring.proofs.Lists.{Contains-at, slice_get-append}
 use Rattle.netlist.specs.Names.{NamedNetlist}
 use Rattle.pointwise_ir.specs.declared.program.Input.{Input}
 use Rattle.pointwise_ir.specs.Programs.{Program}
-use Rattle.pointwise_ir.specs.Meaning.{IsRound}
+use Rattle.pointwise_ir.specs.Meaning.{IsRound, pictures}
 use Rattle.raster_delay.specs.Systems.{System}
 use Rattle.flow_dual.specs.declared.solution.Solution.{Solution}
 use Rattle.buffer_plan.specs.Plans.{Plan, latency, latency_of}
+use Rattle.circuit.specs.Rounds.{pixel}
 use Rattle.circuit.specs.Driven.{Agree, driven, fed_clock, input_widths, output_at}
 use Rattle.cycle_sim.specs.declared.fill.Fill.{Fill}
 use Rattle.cycle_sim.specs.declared.fill.Fill.TheVariants.{Zeros}
@@ -51,7 +54,7 @@ use Rattle.dk_top.specs.Program.{ports}
 use Rattle.dk_top.specs.Output.{outputs_of, output_file}
 use Rattle.dk_top.proofs.RoundLemmas.{pieces_of_map}
 use Rattle.dk_top.proofs.TextLemmas.{output_stays, has_input}
-use Rattle.dk_top.proofs.DriveRounds.{IsSampled, AreSampled, HasPortTypes, pictured, is_round, are_rounds, dins_fit, agrees, extended, extended_sampled, extended_stream, all_at}
+use Rattle.dk_top.proofs.DriveRounds.{IsSampled, AreSampled, HasPortTypes, pictured, is_round, are_rounds, dins_fit, there_is, agrees, extended, extended_sampled, extended_stream, all_at}
 use Rattle.dk_top.proofs.DriveShown.{PictureLaw, RasterLaw, rastered, picture_shown, pieces_at, places_at, pieces_length, piece_within}
 use Rattle.dk_top.proofs.DrivePorts.{widths_are, count_is, dout_width, has_port_types, widths_same, filled_fits, latency_bounds, latency_of_one}
 use Rattle.dk_top.proofs.DriveFrames.{file_sampled, frames_fit, samples_read}
@@ -86,6 +89,21 @@ whole_within r n a lt =
     let fits : suc r * a ≤ n * a = mul-le-mul_right a (let e : suc r ≤ n = omega (arith, lt) in e) in
     let more = suc-mul r a in
     omega (arith, fits, more)
+
+-- a run has a snapshot for each clock
+runs_length : (m : Netlist) (clocks : List Clock) (from to : Contents) (shots : List Snapshot) → Runs m from clocks shots to → length shots ≡ length clocks
+runs_length m [] from to [] h = refl
+runs_length m [] from to (t ∷ shots) h = absurd h
+runs_length m (c ∷ clocks) from to [] h = absurd h
+runs_length m (c ∷ clocks) from to (t ∷ shots) h = ap suc (runs_length m clocks h.0 to shots h.2)
+
+-- rounds of samples for the program's inputs, with this many rounds of zeros after them
+abbrev pub followed : Typing → List (List (List ℕ)) → (more : ℕ) → List (List (List ℕ))
+followed p rounds more = extended p.size (map width_of (map (λ (i : TypedInput). i.ty) p.inputs)) rounds more
+
+-- pixel q of output k on rounds of samples, by the program's meaning
+abbrev pub meant_pixel : Typing → List (List (List ℕ)) → (k q : ℕ) → ℤ
+meant_pixel p rounds k q = pixel_of p.size (λ f. picture_at (meaning_on p (slice_index_or rounds f [])) (slice_index p.outputs k)) q
 
 module _ (source : List ℕ) (age : ℕ) (enable : Bool) (block : Option ℕ) (p : Typing) (ir : Program) (system : System) (solution : Solution) (plan : Plan) (m : NamedNetlist) (nets reads : List Net) (verilog : List ℕ) (c : IsCompiled source age enable block p ir system solution plan m nets reads verilog) where
   front : IsFront source p ir system.stencils
@@ -279,3 +297,55 @@ module _ (source : List ℕ) (age : ℕ) (enable : Bool) (block : Option ℕ) (p
 
       pub drive_file : (bytes : List ℕ) → IsShown m.netlist (drive_from fill clocks) p.size (samples_of rounds) bytes → bytes ≡ output_file p rounds
       drive_file bytes is = is.file_is ∙ ap file_of (images_same is.shots is.run)
+
+      -- a pixel of an output is the program's
+      pixel_meant : (k q : ℕ) → k < length p.outputs → q < length padded * area ir.size → pixel ir (pictured ir.size padded) (output_at ir k) q ≡ meant_pixel p (followed p samples (latency plan)) k q
+      pixel_meant k q lt low =
+          let size = ir.size in
+          let some : 0 < area size = subst (λ n. 0 < n) (sym same_area) some_area in
+          let (g, at) = there_is p.outputs k lt in
+          let (round, here) = there_is padded (q / area size) (div_below q (area size) (length padded) some low) in
+          let first : output_at ir k ≡ g = ap (λ (gs : List ℕ). slice_index gs k) form.outputs ∙ read_at p.outputs k g 0 at in
+          let ok = is_round ir types round (all_at (AllZip (IsSampled ir.size) (input_widths ir)) padded padded_sampled (q / area size) round here) in
+          let given : Size → List (List (List ℕ)) → ℕ → List Picture = λ s rs f. map (picture_of s) (slice_index_or rs f []) in
+          let meant : Size → List (List (List ℕ)) → ℕ → ℤ = λ s rs h. pixel_of s (λ f. picture_at (meaning p (given s rs f)) h) q in
+          let is : slice_index_or padded (q / area size) [] ≡ round = read_at padded (q / area size) round [] here in
+          let known : slice_index_or (pictured size padded) (q / area size) [] ≡ map (picture_of size) round = read_at (pictured size padded) (q / area size) (map (picture_of size) round) [] (map_at (λ (r : List (List ℕ)). map (picture_of size) r) padded (q / area size) round here) in
+          let widths : extended size (input_widths ir) samples (latency plan) ≡ followed p samples (latency plan) =
+          ap (λ s. extended s (input_widths ir) samples (latency plan)) form.size ∙ ap (λ ws. extended p.size ws samples (latency plan)) (sym (widths_same p ir form)) in
+          ap (λ (r : List Picture). pixel_of size (λ f. picture_at (pictures ir r) (output_at ir k)) q) known
+          ∙ ap (λ h. pixel_of size (λ f. picture_at (pictures ir (map (picture_of size) round)) h) q) first
+          ∙ form.meaning (map (picture_of size) round) ok g (output_stays source p front.program g (Contains-at p.outputs k g at)) (pos (column size q)) (pos (row size q))
+          ∙ ap (λ (r : List (List ℕ)). pixel_of size (λ f. picture_at (meaning p (map (picture_of size) r)) g) q) (sym is)
+          ∙ ap (λ h. meant size padded h) (sym (read_at p.outputs k g 0 at))
+          ∙ ap (λ s. meant s padded (slice_index p.outputs k)) form.size
+          ∙ ap (λ rs. meant p.size rs (slice_index p.outputs k)) widths
+
+      over : (shots : List Snapshot) → (run : IsRun m.netlist (drive_from fill clocks) samples shots) → Runs m.netlist (filled_contents fill m.netlist) (driven (length ir.inputs) dins) shots run.to
+      over shots run = subst (λ cs. Runs m.netlist (filled_contents fill m.netlist) cs shots run.to) (stimulus_is (din_widths m.netlist) samples (length ir.inputs) clocks dins_long) run.runs
+
+      pub shots_count : (shots : List Snapshot) → IsRun m.netlist (drive_from fill clocks) samples shots → length shots ≡ suc clocks
+      shots_count shots run =
+          runs_length m.netlist (driven (length ir.inputs) dins) (filled_contents fill m.netlist) run.to shots (over shots run)
+          ∙ ap suc (length-map dins fed_clock ∙ dins_count)
+
+      -- the valid of an output in clock t
+      pub valid_is : (shots : List Snapshot) → IsRun m.netlist (drive_from fill clocks) samples shots → (k t : ℕ) (s : Snapshot) → k < length p.outputs → slice_get shots t ≡ Some s → (net_value s (valid_net k) == 1) ≡ nat_lt (latency_of plan k) t
+      valid_is shots run k t s lt there = c.circuit.drives.valid (filled_contents fill m.netlist) run.to dins shots (filled_fits fill m.netlist) all_dins_fit (over shots run) k t s (in_form k lt) there
+
+      -- and its dout, from its latency on
+      pub dout_is : (shots : List Snapshot) → IsRun m.netlist (drive_from fill clocks) samples shots → (k t : ℕ) (s : Snapshot) → k < length p.outputs → slice_get shots t ≡ Some s → latency_of plan k < t
+          → pos (net_value s (dout_net k)) ≡ meant_pixel p (followed p samples (latency plan)) k (t - (latency_of plan k + 1))
+      dout_is shots run k t s lt there later =
+          let late = latency_of plan k in
+          let q = t - (late + 1) in
+          let inside = slice_get_within shots t s there in
+          let count = shots_count shots run in
+          let e = enough_clocks in
+          let same : t ≡ q + late + 1 = omega (arith, later) in
+          let low : q < length padded * area p.size = omega (arith, inside, count, e, later) in
+          let low_there : q < length padded * area ir.size = subst (λ n. q < length padded * n) (sym same_area) low in
+          let counted : q < length (pictured ir.size padded) * area ir.size = subst (λ n. q < n * area ir.size) (sym (length-map padded (λ (r : List (List ℕ)). map (picture_of ir.size) r))) low_there in
+          c.circuit.drives.dout (filled_contents fill m.netlist) run.to dins shots (filled_fits fill m.netlist) all_dins_fit (over shots run) (pictured ir.size padded) (are_rounds ir types padded padded_sampled) agree k q s (in_form k lt)
+          (subst (λ n. slice_get shots n ≡ Some s) same there) counted
+          ∙ pixel_meant k q lt low_there

@@ -134,7 +134,7 @@ sample_pixel size samples j some low =
     pixel_there size samples (j % size.width) (j / size.width) (mod-lt j wide) (div_below j size.width size.height wide turned)
     ∙ ap (λ n. pos (slice_index samples n)) (div-add-mod' j size.width)
 
-there_is : {A : Type 0} (xs : List A) (k : ℕ) → k < length xs → (x : A) × (slice_get xs k ≡ Some x)
+pub there_is : {A : Type 0} (xs : List A) (k : ℕ) → k < length xs → (x : A) × (slice_get xs k ≡ Some x)
 there_is [] k lt = absurd (omega arith)
 there_is (x ∷ xs) zero lt = (x, refl)
 there_is (x ∷ xs) (suc k) lt = there_is xs k (omega (arith, lt))

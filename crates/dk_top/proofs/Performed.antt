@@ -11,6 +11,7 @@ use Rattle.dk_top.specs.State.{IsFresh, FilesStay}
 use Rattle.dk_top.specs.Performing.{Performs}
 use Rattle.dk_top.proofs.CommandLemmas.{order_stays, words_verdict, words_order, words_report, words_notes, words_begun, words_reads}
 use Rattle.dk_top.proofs.LongLemmas.{words_left}
+use Rattle.dk_top.proofs.FileLemmas.{own_unasked}
 
 -- of the command that the words name
 pub as_named : (o command : Option Command) (e : Ending) (old new : Outside) → o ≡ command → Performs command e old new → Performs o e old new
@@ -46,6 +47,7 @@ refused o e old fresh usage either = record {
   output = λ opened. absurd (let fresh_file = fresh.file in let f : ⊥ = cc in f);
   files = same_files o old.files;
   files_stay = λ closed. refl;
+  own = own_unasked old fresh.file;
   report = words_report o old.files e old.file.bytes old.report either;
   report_stays = λ nothing. refl;
   notes = words_notes o old.files e old.notes either;
@@ -70,6 +72,7 @@ told o e old mid new only h = subst (λ (x : Outside). Performs o e old x) (sym 
   output = h.output;
   files = h.files;
   files_stay = h.files_stay;
+  own = h.own;
   report = h.report;
   report_stays = h.report_stays;
   notes = h.notes;

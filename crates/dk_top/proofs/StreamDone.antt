@@ -19,7 +19,7 @@ use Rattle.pgm_rounds.specs.Files.{FitsFile, joined}
 use Rattle.program_images.specs.Ports.{bits_of}
 use Rattle.stimulus.specs.Stimulus.{stimulus, stream, dins_at}
 use Rattle.stimulus.specs.Inputs.{samples_of as bench_samples}
-use Rattle.stimulus.specs.Showing.{IsRun, output_count, image_shown, images_shown, notes_of}
+use Rattle.stimulus.specs.Showing.{IsRun, output_count, image_shown, images_shown, notes_of, IsNoted as AreNotes}
 use Rattle.stimulus.proofs.Streams.{read_at}
 use Rattle.row_stream.specs.Lines.{head, lines}
 use Rattle.row_stream.specs.Standing.{note_of}
@@ -32,6 +32,7 @@ use Rattle.dk_top.specs.Output.{outputs_of, output_file}
 use Rattle.dk_top.specs.Compiling.{IsCompiledFrom, NotesRun, frame_drive}
 use Rattle.dk_top.specs.Streaming.{IsOnePort, first_bits, output_kind}
 use Rattle.dk_top.proofs.DriveShown.{PictureLaw, RasterLaw, places_at}
+use Rattle.dk_top.proofs.NoteLaws.{NotesLaw, every_of}
 use Rattle.dk_top.proofs.DriveRounds.{zeros_behind}
 use Rattle.dk_top.proofs.DriveLemmas as D
 use Rattle.dk_top.proofs.StreamLemmas.{singles, only_item, clocks_are}
@@ -188,15 +189,18 @@ module _ (source : List ℕ) (age : ℕ) (c : Compiled) (from : IsCompiledFrom s
       (ap (λ k. head (output_kind q) ++ lines (output_kind q) (picture 0 s.shots) k) (r ∙ sym exact) ∙ each_image source age c from one file e.images e.bytes whole_fits long_all picture_law raster_law s.shots s.to s.runs tall e.some)
       (told_file e.created.file.bytes now.file.bytes (head (output_kind q) ++ lines (output_kind q) (picture 0 s.shots) s.rows) (e.creates).empty s.gained.grows)
 
-  pub notes_done : NotesRun source age from.program (rounds_of_images e.images) old.notes now.notes
-  notes_done =
+  pub notes_done : NotesLaw → NotesRun source age from.program (rounds_of_images e.images) old.notes now.notes
+  notes_done law =
       let s = e.shows in
       let same : e.created.notes ≡ old.notes = ap (λ (o : Outside). o.notes) (e.creates).only in
       let count = notes_one (c.«module»).netlist s.shots (one_count source age c from one) in
+      let noted : AreNotes (c.«module»).netlist (frame_drive (from.program).size (latency c.plan) (length (rounds_of_images e.images))) (bench_samples (rounds_of_images e.images)) (notes_of (c.«module»).netlist s.shots) =
+      record { shots = s.shots; run = run source age c from one file e.images e.bytes whole_fits long_all picture_law raster_law s.shots s.to s.runs; notes_are = refl } in
       record {
         compiled = c;
         from = from;
         gained = notes_of (c.«module»).netlist s.shots;
-        run = record { shots = s.shots; run = run source age c from one file e.images e.bytes whole_fits long_all picture_law raster_law s.shots s.to s.runs; notes_are = refl };
+        run = noted;
+        every = every_of law source file age c from (rounds_of_images e.images) whole_fits (notes_of (c.«module»).netlist s.shots) noted;
         told = subst (λ (b : Option (List (Bool × ℕ))). IsIfTold now.notes (option_map (λ notes. notes ++ notes_of (c.«module»).netlist s.shots) b)) same (subst (λ ns. IsIfTold now.notes (option_map (λ notes. notes ++ ns) e.created.notes)) (sym count) s.gained.told);
       }

@@ -3,7 +3,7 @@ use Rattle.std.proofs.Common.{◌≡◌, ◌≢◌, ℕ, ◌<◌, ◌≤◌, Boo
 use Rattle.std.specs.Str.{bytes_eq}
 use Rattle.std.specs.Bool.{Decides}
 use Rattle.std.proofs.lemmas.Slice.Eq.{bytes_eq-Decides}
-use Rattle.dk_desk.specs.declared.Stage.TheVariants.{Unasked, Open}
+use Rattle.dk_desk.specs.declared.Stage.TheVariants.{Unasked, Refused, Open}
 use Rattle.dk_desk.specs.Outside.{Outside, Input, Created}
 use Rattle.dk_desk.specs.Calls.{HasCauseIn, IsIfTold, AddsToFile, grown, with_created, with_file, grow_created, grow_file}
 use Rattle.dk_types.specs.Typed.{Typing}
@@ -33,11 +33,13 @@ use Rattle.dk_top.specs.Compiling.{IsCompiledFrom, NotesRun}
 use Rattle.dk_top.specs.Streaming.{IsOnePort, first_bits, IsBegun, output_kind, shown_by, OfStream, ReadsToFault, ReadsFirst, CreatesAtFailure, OnStream, ReadsRun, LeavesAtFault, LeavesAtRead, LeavesAtWrite}
 use Rattle.dk_top.specs.Verdict.{Files, bytes_of, run_terms, OfPair, IsRunAnswer}
 use Rattle.dk_top.specs.Command.{run}
-use Rattle.dk_top.specs.State.{OthersStay, CreatesNothing, CreatesRun, IsStreamed, IsStoredRun, by_lines, NotedRun}
+use Rattle.dk_top.specs.State.{OthersStay, HasOwnFile, CreatesNothing, CreatesRun, IsStreamed, IsStoredRun, by_lines, NotedRun}
 use Rattle.dk_top.specs.Streams.{StreamEnds, OpensImages, RunsOn}
 use Rattle.dk_top.proofs.VerdictLemmas.{OneProgram}
+use Rattle.dk_top.proofs.FileLemmas.{own_created, own_grown, own_unasked}
 use Rattle.dk_top.proofs.CompileLemmas.{PlannedAccepted, compiled_accepted}
 use Rattle.dk_top.proofs.DriveShown.{PictureLaw, RasterLaw}
+use Rattle.dk_top.proofs.NoteLaws.{NotesLaw}
 use Rattle.dk_top.proofs.DrivePorts.{power_up_fits}
 use Rattle.dk_top.proofs.DriveLemmas as D
 use Rattle.dk_top.proofs.StreamLemmas as S
@@ -114,6 +116,7 @@ pub record Leaves_so (name : List ℕ) (opened now : Outside) : Type 0 where
   pub named : now.file.stage ≢ Unasked → IsIfTold now.file.name (Some name)
   pub others : OthersStay name opened.files now.files
   pub stay : now.file.stage ≢ Open → now.files ≡ opened.files
+  pub own : HasOwnFile now
   pub image : (now.image.stage ≡ opened.image.stage) × (now.image.name ≡ opened.image.name)
 
 -- bytes were added to File, and what is left of the images may have changed
@@ -121,6 +124,7 @@ record Grown (created now : Outside) (w : List ℕ) : Type 0 where
   frame : Frame created now
   stage : now.file.stage ≡ created.file.stage
   name : now.file.name ≡ created.file.name
+  bytes : IsIfTold now.file.bytes (grown created.file.bytes w)
   files : IsIfTold now.files (grow_created created.files created.file.name w)
   image_stage : now.image.stage ≡ created.image.stage
   image_name : now.image.name ≡ created.image.name
@@ -130,6 +134,7 @@ grown_gains created now w notes g = record {
   frame = record { program = ap (λ (o : Outside). o.program) g.only; report = ap (λ (o : Outside). o.report) g.only; fault = ap (λ (o : Outside). o.fault) g.only; fault_failures = ap (λ (o : Outside). o.fault_failures) g.only };
   stage = ap (λ (o : Outside). o.file.stage) g.only;
   name = ap (λ (o : Outside). o.file.name) g.only;
+  bytes = g.grows;
   files = g.files;
   image_stage = ap (λ (o : Outside). o.image.stage) g.only;
   image_name = ap (λ (o : Outside). o.image.name) g.only;
@@ -140,6 +145,7 @@ grown_adds created now w n a = record {
   frame = record { program = ap (λ (o : Outside). o.program) a.only; report = ap (λ (o : Outside). o.report) a.only; fault = ap (λ (o : Outside). o.fault) a.only; fault_failures = ap (λ (o : Outside). o.fault_failures) a.only };
   stage = ap (λ (o : Outside). o.file.stage) a.only;
   name = ap (λ (o : Outside). o.file.name) a.only;
+  bytes = a.grows;
   files = a.files;
   image_stage = ap (λ (o : Outside). o.image.stage) a.only;
   image_name = ap (λ (o : Outside). o.image.name) a.only;
@@ -153,6 +159,7 @@ module _ (name : List ℕ) (opened : Outside) (unasked : opened.file.stage ≡ U
     named = λ asked. absurd (asked (ap (λ (o : Outside). o.file.stage) only ∙ unasked));
     others = subst (λ fs. OthersStay name opened.files fs) (sym (ap (λ (o : Outside). o.files) only)) (same_others opened.files);
     stay = λ closed. ap (λ (o : Outside). o.files) only;
+    own = own_unasked now (ap (λ (o : Outside). o.file.stage) only ∙ unasked);
     image = (ap (λ (o : Outside). o.image.stage) only, ap (λ (o : Outside). o.image.name) only);
   }
     where
@@ -170,6 +177,7 @@ module _ (name : List ℕ) (opened : Outside) (unasked : opened.file.stage ≡ U
           named = λ asked. subst (λ (n : Option (List ℕ)). IsIfTold n (Some name)) (sym g.name) creates.named;
           others = others_grown name opened.files created.files created.file.name w now.files creates.named g.files (others_created name opened.files created.file created.files creates.named creates.files);
           stay = λ closed. absurd (closed stage);
+          own = λ there. own_grown created now w (own_created opened created creates.files) g.name g.bytes g.files;
           image = (g.image_stage ∙ ap (λ (o : Outside). o.image.stage) creates.only, g.image_name ∙ ap (λ (o : Outside). o.image.name) creates.only);
         },
       )
@@ -181,7 +189,7 @@ module _ (name : List ℕ) (opened : Outside) (unasked : opened.file.stage ≡ U
   left_failed : (created now : Outside) (w : List ℕ) (notes : List (Bool × ℕ)) → Creates name opened created → GainsBut created w notes now → (now.file.stage ≡ Open) × Leaves_so name opened now
   left_failed created now w notes creates gains =
       let g = grown_gains created (record now { input_failures = created.input_failures; output_failures = created.output_failures }) w notes gains in
-      left_grown created now w creates (record { frame = record { program = g.frame.program; report = g.frame.report; fault = g.frame.fault; fault_failures = g.frame.fault_failures }; stage = g.stage; name = g.name; files = g.files; image_stage = g.image_stage; image_name = g.image_name })
+      left_grown created now w creates (record { frame = record { program = g.frame.program; report = g.frame.report; fault = g.frame.fault; fault_failures = g.frame.fault_failures }; stage = g.stage; name = g.name; bytes = g.bytes; files = g.files; image_stage = g.image_stage; image_name = g.image_name })
 
   left_half : (created half now : Outside) (w : List ℕ) (notes : List (Bool × ℕ)) → Creates name opened created → Gains created w notes half → now ≡ record half { image = record half.image { rest = now.image.rest }; input_failures = now.input_failures } → (now.file.stage ≡ Open) × Leaves_so name opened now
   left_half created half now w notes creates gains only =
@@ -191,6 +199,7 @@ module _ (name : List ℕ) (opened : Outside) (unasked : opened.file.stage ≡ U
         frame = then_frame created half now g.frame (record { program = ap (λ (o : Outside). o.program) only; report = ap (λ (o : Outside). o.report) only; fault = ap (λ (o : Outside). o.fault) only; fault_failures = ap (λ (o : Outside). o.fault_failures) only });
         stage = ap (λ (o : Outside). o.file.stage) only ∙ g.stage;
         name = ap (λ (o : Outside). o.file.name) only ∙ g.name;
+        bytes = subst (λ b. IsIfTold b (grown created.file.bytes w)) (sym (ap (λ (o : Outside). o.file.bytes) only)) g.bytes;
         files = subst (λ fs. IsIfTold fs (grow_created created.files created.file.name w)) (sym (ap (λ (o : Outside). o.files) only)) g.files;
         image_stage = ap (λ (o : Outside). o.image.stage) only ∙ g.image_stage;
         image_name = ap (λ (o : Outside). o.image.name) only ∙ g.image_name;
@@ -216,6 +225,7 @@ module _ (name : List ℕ) (opened : Outside) (unasked : opened.file.stage ≡ U
     named = λ asked. named;
     others = subst (λ fs. OthersStay name opened.files fs) (sym (files ∙ ap (λ (o : Outside). o.files) only)) (same_others opened.files);
     stay = λ closed. files ∙ ap (λ (o : Outside). o.files) only;
+    own = λ there. absurd (let e : Refused ≡ Open = sym stage ∙ there in let g : ⊥ = cc in g);
     image = (ap (λ (i : Input). i.stage) same ∙ ap (λ (o : Outside). o.image.stage) only, ap (λ (i : Input). i.name) same ∙ ap (λ (o : Outside). o.image.name) only);
   }
     where
@@ -245,7 +255,7 @@ module _ (one_program : OneProgram) (one_rounds : (ports : Ports) → 0 < length
 
 -- the cause of a failure does not come from what did not fail
 module _ (law : PlannedAccepted) (one_program : OneProgram) (one_rounds : (ports : Ports) → 0 < length ports.inputs → (bytes : List ℕ) → (a b : List (List Image)) → FitsFile ports bytes a → FitsFile ports bytes b → a ≡ b)
-    (picture_law : PictureLaw) (raster_law : RasterLaw) (laws : MostLaws) (source : List ℕ) (age : ℕ) (c : Compiled) (from : IsCompiledFrom source age false None c) (one : IsOnePort from.program) (image out : List ℕ)
+    (picture_law : PictureLaw) (raster_law : RasterLaw) (laws : MostLaws) (notes_law : NotesLaw) (source : List ℕ) (age : ℕ) (c : Compiled) (from : IsCompiledFrom source age false None c) (one : IsOnePort from.program) (image out : List ℕ)
     (old opened : Outside) (opens : OpensImages image old opened) (image_unasked : old.image.stage ≡ Unasked) (unasked : old.file.stage ≡ Unasked) where
   abbrev q : Typing
   q = from.program
@@ -316,6 +326,7 @@ module _ (law : PlannedAccepted) (one_program : OneProgram) (one_rounds : (ports
       notes = of_told (λ file. NotedRun result age source file old.notes now.notes) notes;
       files = subst (λ fs. OthersStay out fs now.files) opened_files left.others;
       files_stay = λ shut. left.stay shut ∙ opened_files;
+      own = left.own;
       only = frame_only old now (then_frame old opened now opened_frame left.frame);
       read_fault = read;
       write_fault = write;
@@ -404,7 +415,7 @@ module _ (law : PlannedAccepted) (one_program : OneProgram) (one_rounds : (ports
       (λ there file told. stored_by (λ bytes. bytes ≡ output_file q (rounds_of_images e.images)) (IsStoredRun ending.Done age source file now.image.rest) now.file.bytes
       (λ bytes h. of_pair one_program one_rounds source age c from file (rounds_of_images e.images) (fits file told) some_inputs (λ p rounds. bytes ≡ output_file p rounds) h) (file_done source age c from one picture_law raster_law file out opened now told e tall wide))
       (λ file told. of_pair one_program one_rounds source age c from file (rounds_of_images e.images) (fits file told) some_inputs (λ p rounds. NotesRun source age p rounds old.notes now.notes)
-      (subst (λ (b : Option (List (Bool × ℕ))). NotesRun source age q (rounds_of_images e.images) b now.notes) notes_same (notes_done source age c from one picture_law raster_law file out opened now told e tall wide))) read write
+      (subst (λ (b : Option (List (Bool × ℕ))). NotesRun source age q (rounds_of_images e.images) b now.notes) notes_same (notes_done source age c from one picture_law raster_law file out opened now told e tall wide notes_law))) read write
     where
       fits : (file : List ℕ) → opened.image.rest ≡ Some file → FitsFile (ports q) file (rounds_of_images e.images)
       fits file told = whole_fits source age c from one picture_law raster_law file out opened now told e tall wide

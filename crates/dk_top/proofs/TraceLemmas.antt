@@ -20,7 +20,8 @@ use Rattle.stimulus.specs.Given.{rounds_of}
 use Rattle.stimulus.specs.Inputs.{samples_of}
 use Rattle.stimulus.specs.Showing.{IsRun}
 use Rattle.stimulus.specs.Stops.{StopsAtClock}
-use Rattle.trace_bench.specs.declared.ending.TraceEnd.TheVariants.{Stopped}
+use Rattle.trace_bench.specs.declared.ending.TraceEnd.{TraceEnd}
+use Rattle.trace_bench.specs.declared.ending.TraceEnd.TheVariants.{Stopped, Write}
 use Rattle.trace_bench.specs.Traces.{in_header as fails_in_header, in_clock as fails_in_clock, at_end as fails_at_end, values_of, trace_front, TracesRun, FailsTracing, FailsBehind, EndsTrace}
 use Rattle.dk_endings.specs.declared.ending.Ending.{Ending}
 use Rattle.dk_endings.specs.declared.ending.Ending.TheVariants as ending
@@ -30,9 +31,10 @@ use Rattle.dk_words.specs.declared.command.PowerUp.{PowerUp}
 use Rattle.dk_words.specs.declared.command.PowerUp.TheVariants.{Zeros}
 use Rattle.dk_top.specs.Command.{trace}
 use Rattle.dk_top.specs.Simulation.{drive_of}
-use Rattle.dk_top.specs.State.{OthersStay, CreatesBy, CreatesTrace}
+use Rattle.dk_top.specs.State.{OthersStay, HoldsFile, CreatesBy, CreatesTrace}
 use Rattle.dk_top.specs.Simulating.{IsInputEnding, IsSimInput}
 use Rattle.dk_top.proofs.SimReads.{samples_same, stopped_of}
+use Rattle.dk_top.proofs.FileLemmas.{own_added, own_front}
 
 -- what a file that was empty holds after bytes were added
 pub holds_added : (mid new : Option (List ℕ)) (bytes : List ℕ) (R : List ℕ → Type 0) → IsIfTold mid (Some []) → IsIfTold new (grown mid bytes) → R bytes → IfSome new R
@@ -111,6 +113,21 @@ module _ (drive : Drive) (m : NamedNetlist) (size : Size) (rounds : List Round) 
   stored_stop (Index clock array index) ends = holds_added old.file.bytes new.file.bytes (trace_front m ends.stop.shots) (λ b. (t i : List ℕ) → IsSimInput drive.hold t i m size rounds → HoldsToStop drive t i clock array index b) empty ends.gained.grows
       (λ t i given. stopped_trace drive m size rounds valuation next t i given clock array index ends.stop)
   stored_stop (Count shown wanted) ends = absurd ends
+
+-- the created file has the bytes of File after the whole trace
+pub own_run : (m : NamedNetlist) (drive : Drive) (rounds : Rounds) (old new : Outside) → HoldsFile old → TracesRun m drive rounds old new → HoldsFile new
+own_run m drive rounds old new holds run = own_added old new (trace_text m (values_of run.shots)) holds run.gained
+
+own_cut : (m : NamedNetlist) (drive : Drive) (rounds : Rounds) (old new : Outside) → HoldsFile old → FailsTracing m drive rounds old new → HoldsFile new
+own_cut m drive rounds old new holds (fails_in_header w) = own_front old new (header_text m) holds w
+own_cut m drive rounds old new holds (fails_in_clock f) = own_front old new (trace_front m (f.shots ++ f.last ∷ [])) holds f.fails.write
+own_cut m drive rounds old new holds (fails_at_end f) = own_front old new (trace_text m (values_of f.shots)) holds f.fails.write
+
+-- and where there is no whole trace
+pub own_end : (m : NamedNetlist) (drive : Drive) (rounds : Rounds) (end : TraceEnd) (old new : Outside) → HoldsFile old → EndsTrace m drive rounds end old new → HoldsFile new
+own_end m drive rounds (Stopped (Index clock array index)) old new holds ends = own_added old new (trace_front m ends.stop.shots) holds ends.gained
+own_end m drive rounds (Stopped (Count shown wanted)) old new holds ends = absurd ends
+own_end m drive rounds Write old new holds ends = own_cut m drive rounds old new holds ends
 
 -- what is stored of any input of the drive's is stored of the files
 pub stored_trace : (told : Option Files) (verilog image : List ℕ) (d drive : Drive) (m : NamedNetlist) (size : Size) (rounds : List Round) (bytes : Option (List ℕ)) (result : Ending) → d ≡ drive → IfSome told (λ f. IsSimInput drive.hold (bytes_of f verilog) (bytes_of f image) m size rounds)

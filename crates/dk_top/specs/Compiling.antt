@@ -1,9 +1,13 @@
 -- What a program's text is compiled to, and how it is clocked.
-use Rattle.std.specs.Prelude.{◌≡◌, ℕ, ◌+◌, ◌*◌, Bool, false, List, ◌++◌, length, Option, None}
+use Rattle.std.specs.Prelude.{◌≡◌, ℕ, ◌+◌, ◌*◌, Bool, false, IsTrue, List, ◌++◌, length, Option, None}
+use Rattle.std.specs.List.{AllZip}
 use Rattle.std.specs.Option.{option_map}
 use Rattle.dk_base.specs.Frames.{Size, area}
 use Rattle.dk_desk.specs.Calls.{IsIfTold}
-use Rattle.buffer_plan.specs.Plans.{latency}
+use Rattle.netlist.specs.Names.{NamedNetlist}
+use Rattle.buffer_plan.specs.Plans.{Plan, latency}
+use Rattle.verilog_text.specs.Stands.{StandsFor}
+use Rattle.cycle_sim.specs.declared.fill.Fill.{Fill}
 use Rattle.cycle_sim.specs.declared.fill.Fill.TheVariants.{Zeros}
 use Rattle.pgm_codec.specs.Images.{Image}
 use Rattle.stimulus.specs.declared.drive.Drive.{Drive}
@@ -31,9 +35,34 @@ pub record AreNetLines (source : List ℕ) (age : ℕ) (enable : Bool) (block : 
   pub from : IsCompiledFrom source age enable block compiled
   pub are : lines ≡ net_lines compiled.ir compiled.plan compiled.«module» compiled.nets.items compiled.reads.items
 
--- how a module is driven with this many rounds of frames: from zeros, with a clock for each pixel, and then those of the latency
+-- how a module is driven with this many rounds of frames, from zeros or from ones: with a clock for each pixel, and then those of the latency
+abbrev pub filled_drive : Fill → Size → (latency rounds : ℕ) → Drive
+filled_drive fill size latency rounds = record { clocks = rounds * area size + latency; fill = fill; hold = None }
+
+-- from zeros, as `run` does
 abbrev pub frame_drive : Size → (latency rounds : ℕ) → Drive
-frame_drive size latency rounds = record { clocks = rounds * area size + latency; fill = Zeros; hold = None }
+frame_drive size latency rounds = filled_drive Zeros size latency rounds
+
+-- These are the notes of a module that a Verilog text of the program denotes, compiled with any options of `compile` at this age.
+-- It is driven with these rounds, from zeros or from ones.
+pub record AreTextNotes (source : List ℕ) (age : ℕ) (p : Typing) (plan : Plan) (rounds : List (List Image)) (notes : List (Bool × ℕ)) : Type 0 where
+  pub enable : Bool
+  pub block : Option ℕ
+  pub text : List ℕ
+  pub compiled : IsCompiledText source age enable block text
+  pub «module» : NamedNetlist
+  pub denotes : StandsFor text «module»
+  pub fill : Fill
+  pub run : AreNotes «module».netlist (filled_drive fill p.size (latency plan) (length rounds)) (samples_of rounds) notes
+
+-- two notes of an output in a clock have the same `valid`, and the same `dout` where it is 1
+pub record AgreeInClock (one other : Bool × ℕ) : Type 0 where
+  pub valid : one.0 ≡ other.0
+  pub dout : IsTrue one.0 → one.1 ≡ other.1
+
+-- there are as many notes in both lists, and they agree place by place
+abbrev pub AgreeWhereValid : (one other : List (Bool × ℕ)) → Type 0
+AgreeWhereValid one other = AllZip AgreeInClock one other
 
 -- The notes have gained those of the run of a module of the program's text, driven with these rounds.
 pub record NotesRun (source : List ℕ) (age : ℕ) (p : Typing) (rounds : List (List Image)) (old new : Option (List (Bool × ℕ))) : Type 0 where
@@ -41,4 +70,6 @@ pub record NotesRun (source : List ℕ) (age : ℕ) (p : Typing) (rounds : List 
   pub from : IsCompiledFrom source age false None compiled
   pub gained : List (Bool × ℕ)
   pub run : AreNotes compiled.«module».netlist (frame_drive p.size (latency compiled.plan) (length rounds)) (samples_of rounds) gained
+  -- the notes of each module of the program agree with them, whatever text of `compile` denotes it
+  pub every : (notes : List (Bool × ℕ)) → AreTextNotes source age p compiled.plan rounds notes → AgreeWhereValid gained notes
   pub told : IsIfTold new (option_map (λ notes. notes ++ gained) old)

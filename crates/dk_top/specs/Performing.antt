@@ -8,7 +8,7 @@ use Rattle.dk_endings.specs.declared.ending.Ending.{Ending}
 use Rattle.dk_endings.specs.declared.ending.Ending.TheVariants as ending
 use Rattle.dk_top.specs.Command.{Command}
 use Rattle.dk_top.specs.Verdict.{OnCommand, IsVerdict, IsOrMemory}
-use Rattle.dk_top.specs.State.{AsksOnly, AsksInOrder, CreatesNothing, CreatesBy, ReadsBy, CreatesOut, FilesStay, IsStored, IsNoted, IsReported, WritesNothing, NotesNothing, TakesNoMore}
+use Rattle.dk_top.specs.State.{AsksOnly, AsksInOrder, CreatesNothing, CreatesBy, ReadsBy, CreatesOut, FilesStay, HasOwnFile, IsStored, IsNoted, IsReported, WritesNothing, NotesNothing, TakesNoMore}
 
 -- the ending is right for the command and its files
 abbrev pub EndsRight : Option Command → Ending → (old : Outside) → Type 0
@@ -78,7 +78,7 @@ pub record Performs (command : Option Command) (e : Ending) (old new : Outside) 
   pub verdict : EndsRight command e old
   pub read_fault : ReportsRead e old new
   pub write_fault : ReportsWrite e old new
-  -- what was requested, read and created, and what File holds
+  -- what was requested, read and created, and what File and the files hold
   pub asked : AsksOnly command new
   pub order : AsksAfter command old new
   pub too_long : LeavesRestOf command e old new
@@ -89,6 +89,7 @@ pub record Performs (command : Option Command) (e : Ending) (old new : Outside) 
   pub output : HasStored command e old new
   pub files : FilesStay command old.files new.files
   pub files_stay : AllStay old new
+  pub own : HasOwnFile new
   -- Report and the notes
   pub report : HasReported command e old new
   pub report_stays : ReportStays command e old new

@@ -193,7 +193,7 @@ pub record LeavesAtRead (p : Typing) (latency : ℕ) (file : List ℕ) (left : O
   pub holds : HoldsLines p latency samples bytes
 
 -- After a failed write: a front of the first header, where only that header of the file was read; or all lines before line y and a front of it,
--- where the fewest lines were taken that make line y whole, and no header after them; or all there are, the lines of whole images.
+-- where the fewest lines were taken that make line y whole, and no header after them; or where all lines of the file were taken, and it ends after a whole image.
 pub data LeavesAtWrite (p : Typing) (latency : ℕ) (file : List ℕ) (left : Option (List ℕ)) (bytes : List ℕ) : Type 0 where
   of_header : ReadsFirst p file left → (count : ℕ) → count < length (head (output_kind p))
       → bytes ≡ take count (head (output_kind p)) → LeavesAtWrite p latency file left bytes

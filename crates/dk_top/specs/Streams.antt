@@ -24,7 +24,7 @@ use Rattle.dk_top.specs.Compiling.{IsCompiledFrom}
 use Rattle.dk_top.specs.Reading.{IsInputOf}
 use Rattle.dk_top.specs.Command.{run}
 use Rattle.dk_compile.specs.Limits.{IsAcceptedAt}
-use Rattle.dk_top.specs.State.{AsksOnly, AsksWhere, CreatesNothing, CreatesOut, OthersStay, CreatesRun, IsStoredRun, NotedRun}
+use Rattle.dk_top.specs.State.{AsksOnly, AsksWhere, CreatesNothing, CreatesOut, OthersStay, HasOwnFile, CreatesRun, IsStoredRun, NotedRun}
 
 -- what the stream leaves, by the ending
 abbrev pub StreamEnds : Kind → Netlist → (bits latency : ℕ) → (name : List ℕ) → Contents → (opened now : Outside) → Ending → Type 0
@@ -93,6 +93,7 @@ pub record RunsOn (source : List ℕ) (age : ℕ) (image out : List ℕ) (result
   pub notes : IfSome old.files (λ files. NotedRun result age source (bytes_of files image) old.notes new.notes)
   pub files : OthersStay out old.files new.files
   pub files_stay : new.file.stage ≢ Open → new.files ≡ old.files
+  pub own : HasOwnFile new
   pub only : StreamsOnly old new
   pub read_fault : HasCauseIn (result ≡ ending.ReadFault) old.input_failures new.input_failures
   pub write_fault : HasCauseIn (result ≡ ending.WriteFault) old.output_failures new.output_failures
@@ -112,6 +113,7 @@ pub record PerformsRun (program image out : List ℕ) (age : ℕ) (result : Endi
   pub notes : IfSome old.files (λ files. NotedRun result age (bytes_of files program) (bytes_of files image) old.notes new.notes)
   pub files : OthersStay out old.files new.files
   pub files_stay : new.file.stage ≢ Open → new.files ≡ old.files
+  pub own : HasOwnFile new
   pub only : RunsOnly old new
   pub read_fault : HasCauseIn (result ≡ ending.ReadFault) old.input_failures new.input_failures
   pub write_fault : HasCauseIn (result ≡ ending.WriteFault) old.output_failures new.output_failures

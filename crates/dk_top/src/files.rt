@@ -3,7 +3,7 @@
 ghost use Rattle.std.specs.Prelude.{◌≡◌, ◌≢◌, ◌<◌, ◌≤◌, Some, Err, IfOk, IfErr, IfSome, OnOk, OnErr, IsErr, length, vec_len};
 ghost use Rattle.dk_desk.specs.Outside.{input};
 ghost use Rattle.dk_desk.specs.Calls.{HasCauseIn, IsIfTold, OpensOnly, CreatesOnly, grown};
-ghost use Rattle.dk_top.specs.State.{IsPrefix, OthersStay, ReportsFront, LeavesRest};
+ghost use Rattle.dk_top.specs.State.{IsPrefix, OthersStay, HasOwnFile, ReportsFront, LeavesRest};
 ghost use Rattle.dk_top.specs.Reading.{unread_by, WritesReport, OfFile, IsUnread, Stops, TellsNoText};
 
 use dk_desk::transfer::{ReadAll, read_all, read_upto, write_all};
@@ -82,6 +82,7 @@ pub fn write_file<D: Desk>(desk: &mut D, name: &str, bytes: &[u8]) -> Result<(),
     ensures files { OthersStay name.now (D.outside desk.old).files (D.outside desk.new).files }
     ensures files_stay { (D.outside desk.new).file.stage ≢ Stage.Open → (D.outside desk.new).files
         ≡ (D.outside desk.old).files }
+    ensures own { HasOwnFile (D.outside desk.new) }
     ensures only { CreatesOnly (D.outside desk.old) (D.outside desk.new) }
     ensures cause { HasCauseIn (IsErr result) (D.outside desk.old).output_failures
         (D.outside desk.new).output_failures }

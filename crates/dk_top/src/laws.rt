@@ -1,19 +1,26 @@
 //! Laws of the definitions.
 
-ghost use Rattle.std.specs.Prelude.{◌≡◌, ℕ, ◌<◌, ◌≤◌, Bool, List, length, Option, Some};
+ghost use Rattle.std.specs.Prelude.{◌≡◌, ℕ, ◌<◌, ◌≤◌, Bool, List, length, Option, None, Some};
 ghost use Rattle.dk_base.specs.Stencils.{Stencils};
 ghost use Rattle.source_fault.specs.declared.fault.SourceFault.{SourceFault};
 ghost use Rattle.dk_plan.specs.declared.judging.Claim.{Claim as TheClaim};
 ghost use Rattle.dk_compile.specs.Limits.{IsFaultAt};
 ghost use Rattle.dk_compile.specs.Correct.{IsCorrect};
-ghost use Rattle.dk_top.specs.Compiling.{IsCompiledText};
+ghost use Rattle.dk_top.specs.Compiling.{IsCompiledText, AreTextNotes, AgreeWhereValid, filled_drive};
 ghost use Rattle.dk_top.specs.Program.{CanBeCompiled};
 ghost use Rattle.dk_top.specs.Plans.{HasStencils, IsConfirmed, IsWrongLine};
 ghost use Rattle.dk_top.specs.Streaming.{ReadsToFault, ReadsToFailure};
 ghost use Rattle.dk_types.specs.Typed.{Typing};
 ghost use Rattle.dk_words.specs.declared.command.PowerUp.{PowerUp as OnePower};
-ghost use Rattle.dk_top.specs.Agreement.{CompiledInput, whole_drive};
-ghost use Rattle.dk_top.specs.Output.{output_file};
+ghost use Rattle.dk_top.specs.Agreement.{HasPlan, CompiledInput, whole_drive};
+ghost use Rattle.dk_top.specs.Output.{Fits, output_file};
+ghost use Rattle.buffer_plan.specs.Plans.{Plan, latency};
+ghost use Rattle.pgm_codec.specs.Images.{Image};
+ghost use Rattle.netlist.specs.Names.{NamedNetlist};
+ghost use Rattle.verilog_text.specs.Stands.{StandsFor};
+ghost use Rattle.cycle_sim.specs.declared.fill.Fill.{Fill};
+ghost use Rattle.stimulus.specs.Inputs.{samples_of};
+ghost use Rattle.stimulus.specs.Showing.{IsNoted as AreNotes};
 ghost use Rattle.dk_top.specs.Simulation.{IsSimulated};
 
 /// The theorem of the compiler: whatever text `compile` leaves in OUT after Done (`IsCompiledText`), it denotes one module. From any contents this module shows
@@ -69,6 +76,27 @@ pub fn compile_then_sim_law()
     ensures only { (given : CompiledInput) (fill : OnePower) (pictures : List ℕ)
         → IsSimulated (whole_drive given fill) given.text given.file pictures → pictures
         ≡ output_file given.program given.rounds }
+{
+    dk_compile::one_source_law();
+    dk_compile::one_at_age_law();
+    dk_compile::drive_shows_law();
+    buffer_plan::one_limit_law();
+    wiring::one_valuation_law();
+    wiring::one_next_law();
+    netlist::one_run_law();
+    stimulus::one_input_law();
+}
+
+/// Laws: a program has one plan at an age. Each module of its Verilog texts has notes on rounds that fit, from zeros and from ones.
+/// The notes of two of them have the same `valid` in each clock, and the same `dout` where it is 1.
+pub fn notes_agree_law()
+    ensures plan { (source : List ℕ) (age : ℕ) (p q : Typing) (one other : Plan) → HasPlan source age p one → HasPlan source age q other → one ≡ other }
+    ensures agree { (source file : List ℕ) (age : ℕ) (p : Typing) (plan : Plan) (rounds : List (List Image)) → HasPlan source age p plan → Fits None p file rounds
+        → (one other : List (Bool × ℕ)) → AreTextNotes source age p plan rounds one → AreTextNotes source age p plan rounds other
+        → AgreeWhereValid one other }
+    ensures some { (source file : List ℕ) (age : ℕ) (p : Typing) (plan : Plan) (rounds : List (List Image)) → HasPlan source age p plan → Fits None p file rounds
+        → (enable : Bool) (block : Option ℕ) (text : List ℕ) (m : NamedNetlist) (fill : Fill) → IsCompiledText source age enable block text → StandsFor text m
+        → (notes : List (Bool × ℕ)) × AreNotes m.netlist (filled_drive fill p.size (latency plan) (length rounds)) (samples_of rounds) notes }
 {
     dk_compile::one_source_law();
     dk_compile::one_at_age_law();

@@ -2,7 +2,7 @@
 
 ghost use Rattle.std.specs.Prelude.{◌≡◌, ◌≢◌, Some};
 ghost use Rattle.dk_top.specs.Command.{Command, IsInRange};
-ghost use Rattle.dk_top.specs.State.{IsFresh, AsksOnly, FilesStay};
+ghost use Rattle.dk_top.specs.State.{IsFresh, AsksOnly, FilesStay, HasOwnFile};
 ghost use Rattle.dk_top.specs.Performing.{Performs, EndsRight, ReportsRead, ReportsWrite, AsksAfter, LeavesRestOf, CreatesLast, HasCreated, HasRead, HasWritten, HasStored, AllStay, HasReported, ReportStays, HasNoted, NotesStay};
 
 use dk_desk::Desk;
@@ -36,6 +36,7 @@ pub trait Work {
         ensures files { FilesStay (Some (command self.now)) (D.outside desk.old).files
             (D.outside desk.new).files }
         ensures files_stay { AllStay (D.outside desk.old) (D.outside desk.new) }
+        ensures own { HasOwnFile (D.outside desk.new) }
         ensures report { HasReported (Some (command self.now)) result (D.outside desk.old)
             (D.outside desk.new) }
         ensures report_stays { ReportStays (Some (command self.now)) result (D.outside desk.old)

@@ -161,6 +161,7 @@ module _ (b0 b1 b2 b3 b4 : Netlist) (load : Option Net) (first : ℕ) (test regi
     includes = f40;
     net = net_more b4 b1 f41 register net;
     width = width_more b4 b1 f41 register net.declared ∙ width;
+    regs = ap (λ (b : Netlist). b.regs) put ∙ l3.wires.regs ∙ l2.wires.regs ∙ ap (λ (b : Netlist). b.regs) made;
     arrays = ap (λ (b : Netlist). b.arrays) put ∙ l3.wires.arrays ∙ l2.wires.arrays ∙ ap (λ (b : Netlist). b.arrays) made;
     reads = none_read;
     takes_test = takes_here edge;
@@ -269,7 +270,3 @@ beside_counters new old first second k before grows is at_column at_row updated 
 
     not_copy : (copies : List ℕ) → All (λ r. r < length old.regs) copies → (r i : ℕ) → r ≡ i → Contains copies r → length old.regs ≤ i → ⊥
     not_copy copies there r i e c high = let low : r < length old.regs = All-contains (λ (j : ℕ). j < length old.regs) copies r there c in omega (arith, low, e, high)
-
--- a register beside the counters that are there now
-pub adds_on : (a b c : Netlist) (i j : Option Counters) (k : Counters) → j ≡ Some k → AddsBeside b a j i → AddsBeside c b (Some k) (Some k) → AddsBeside c a j i
-adds_on a b c i j k e f g = beside_on a b c i j j f (subst (λ (o : Option Counters). AddsBeside c b o o) (sym e) g)

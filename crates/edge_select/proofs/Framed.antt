@@ -2,7 +2,7 @@
 use Rattle.std.proofs.Common.{◌≡◌, ℕ, zero, suc, ◌+◌, ◌-◌, ◌*◌, ◌/◌, ◌%◌, ◌<◌, ◌≤◌, Bool, true, false, [], ◌∷◌, ◌++◌, length, Option, None, Some, refl, sym, ap, subst, ◌∙◌, inl, inr, arith}
 use Rattle.std.specs.Prelude.{All, Contains, IfSome, IsTrue, slice_get, if◌then◌else◌, not, bit_and}
 use Rattle.std.proofs.lemmas.Nat.{div-add-mod'}
-use Rattle.std.proofs.lemmas.List.Elements.{All-weaker, All-push}
+use Rattle.std.proofs.lemmas.List.Elements.{All-weaker, All-push, All-nil}
 use Rattle.dk_base.specs.Frames.{Size, column, row}
 use Rattle.dk_base.specs.FrameSizes.{size_of}
 use Rattle.wiring.specs.declared.netlist.Net.{Net}
@@ -31,8 +31,9 @@ use Rattle.edge_select.specs.Bands.{in_interval, in_band}
 use Rattle.edge_select.specs.Logic.{IsBit, IsBoth, IsTestNet}
 use Rattle.edge_select.specs.Pixels.{HasPixel, Follows, IsBitOf}
 use Rattle.edge_select.specs.Counters.{TakesNext}
-use Rattle.edge_select.specs.FrameTests.{AreCounters, IsColumnTest, IsRowTest, AreFrameTests, IsFrameTest, IsPartTest}
+use Rattle.edge_select.specs.FrameTests.{AreCounters, IsColumnTest, IsRowTest, AreFrameTests, IsFrameTest, IsPartTest, Divides, HasNone, TestsDiffer}
 use Rattle.net_build.proofs.Depth.{within_made}
+use Rattle.edge_select.proofs.Differing.{none_differ, push_differs, push_some}
 use Rattle.edge_select.proofs.Lasting.{follows_more}
 use Rattle.edge_select.proofs.Depth.{depth_more}
 use Rattle.edge_select.proofs.Raster.{place}
@@ -112,36 +113,63 @@ tests_more b a size tests f is = record {
   counters = some_counters b a size tests.counters f is.counters;
   columns = All-weaker (IsColumnTest a size) (IsColumnTest b size) (λ t. column_test_more b a size t f) tests.columns.items is.columns;
   rows = All-weaker (IsRowTest a size) (IsRowTest b size) (λ t. row_test_more b a size t f) tests.rows.items is.rows;
+  columns_divide = is.columns_divide;
+  rows_divide = is.rows_divide;
+  columns_differ = is.columns_differ;
+  rows_differ = is.rows_differ;
+  needed = is.needed;
 }
 
--- with counters, or with one more test
+-- without tests, or with one more
+pub no_tests : (b : Netlist) (size : Size) (tests : FrameTests) → size_of tests.size ≡ size → tests.counters ≡ None → tests.columns.items ≡ [] → tests.rows.items ≡ [] → AreFrameTests b size tests
+no_tests b size tests es ek ec er = record {
+  size_is = es;
+  counters = subst (λ (o : Option Counters). IfSome o (AreCounters b size)) (sym ek) tt;
+  columns = subst (All (IsColumnTest b size)) (sym ec) (All-nil (IsColumnTest b size));
+  rows = subst (All (IsRowTest b size)) (sym er) (All-nil (IsRowTest b size));
+  columns_divide = subst (All (λ (t : Test). Divides size.width t.band)) (sym ec) (All-nil (λ (t : Test). Divides size.width t.band));
+  rows_divide = subst (All (λ (t : Test). Divides size.height t.band)) (sym er) (All-nil (λ (t : Test). Divides size.height t.band));
+  columns_differ = subst TestsDiffer (sym ec) none_differ;
+  rows_differ = subst TestsDiffer (sym er) none_differ;
+  needed = λ no_columns no_rows. ek;
+}
+
 pub counters_are : (b : Netlist) (size : Size) (first : ℕ) (k : Counters) → size_of k.pixel.size ≡ size → HasPixel b k.pixel → Follows b 0 k.pixel → TakesNext b first k → AreCounters b size k
 counters_are b size first k e has follows next = record { size_is = e; pixel = has; follows = follows; first = first; next = next }
 
-pub with_counters : (b a : Netlist) (size : Size) (tests old : FrameTests) (k : Counters) → tests.size ≡ old.size → tests.counters ≡ Some k → tests.columns.items ≡ old.columns.items → tests.rows.items ≡ old.rows.items → Includes b a → AreFrameTests a size old → AreCounters b size k → AreFrameTests b size tests
-with_counters b a size tests old k es ek ec er f is new =
-    let more = tests_more b a size old f is in
-    record {
-      size_is = ap (λ z. size_of z) es ∙ is.size_is;
-      counters = subst (λ (o : Option Counters). IfSome o (AreCounters b size)) (sym ek) new;
-      columns = subst (All (IsColumnTest b size)) (sym ec) more.columns;
-      rows = subst (All (IsRowTest b size)) (sym er) more.rows;
-    }
+pub some_counters_are : (b : Netlist) (size : Size) (tests : FrameTests) (k : Counters) → tests.counters ≡ Some k → AreFrameTests b size tests → AreCounters b size k
+some_counters_are b size tests k e is = subst (λ (o : Option Counters). IfSome o (AreCounters b size)) e is.counters
 
-pub with_column : (b : Netlist) (size : Size) (tests old : FrameTests) (t : Test) → tests.size ≡ old.size → tests.counters ≡ old.counters → tests.columns.items ≡ old.columns.items ++ t ∷ [] → tests.rows.items ≡ old.rows.items → AreFrameTests b size old → IsColumnTest b size t → AreFrameTests b size tests
-with_column b size tests old t es ek ec er is new = record {
+-- counters by their own size
+pub own_size : (b : Netlist) (size : Size) (k : Counters) → AreCounters b size k → AreCounters b (size_of k.pixel.size) k
+own_size b size k is = subst (λ (z : Size). AreCounters b z k) (sym is.size_is) is
+
+pub with_column : (b : Netlist) (size : Size) (tests old : FrameTests) (k : Counters) (t : Test) → tests.size ≡ old.size → tests.counters ≡ Some k → tests.columns.items ≡ old.columns.items ++ t ∷ [] → tests.rows.items ≡ old.rows.items → AreFrameTests b size old → AreCounters b size k → IsColumnTest b size t →
+    Divides size.width t.band → HasNone old.columns.items t.start t.band → AreFrameTests b size tests
+with_column b size tests old k t es ek ec er is counters new divides none = record {
   size_is = ap (λ z. size_of z) es ∙ is.size_is;
-  counters = subst (λ (o : Option Counters). IfSome o (AreCounters b size)) (sym ek) is.counters;
+  counters = subst (λ (o : Option Counters). IfSome o (AreCounters b size)) (sym ek) counters;
   columns = subst (All (IsColumnTest b size)) (sym ec) (All-push (IsColumnTest b size) old.columns.items t is.columns new);
   rows = subst (All (IsRowTest b size)) (sym er) is.rows;
+  columns_divide = subst (All (λ (u : Test). Divides size.width u.band)) (sym ec) (All-push (λ (u : Test). Divides size.width u.band) old.columns.items t is.columns_divide divides);
+  rows_divide = subst (All (λ (u : Test). Divides size.height u.band)) (sym er) is.rows_divide;
+  columns_differ = subst TestsDiffer (sym ec) (push_differs old.columns.items t is.columns_differ none);
+  rows_differ = subst TestsDiffer (sym er) is.rows_differ;
+  needed = λ no_columns no_rows. absurd (push_some old.columns.items t (sym ec ∙ no_columns));
 }
 
-pub with_row : (b : Netlist) (size : Size) (tests old : FrameTests) (t : Test) → tests.size ≡ old.size → tests.counters ≡ old.counters → tests.columns.items ≡ old.columns.items → tests.rows.items ≡ old.rows.items ++ t ∷ [] → AreFrameTests b size old → IsRowTest b size t → AreFrameTests b size tests
-with_row b size tests old t es ek ec er is new = record {
+pub with_row : (b : Netlist) (size : Size) (tests old : FrameTests) (k : Counters) (t : Test) → tests.size ≡ old.size → tests.counters ≡ Some k → tests.columns.items ≡ old.columns.items → tests.rows.items ≡ old.rows.items ++ t ∷ [] → AreFrameTests b size old → AreCounters b size k → IsRowTest b size t →
+    Divides size.height t.band → HasNone old.rows.items t.start t.band → AreFrameTests b size tests
+with_row b size tests old k t es ek ec er is counters new divides none = record {
   size_is = ap (λ z. size_of z) es ∙ is.size_is;
-  counters = subst (λ (o : Option Counters). IfSome o (AreCounters b size)) (sym ek) is.counters;
+  counters = subst (λ (o : Option Counters). IfSome o (AreCounters b size)) (sym ek) counters;
   columns = subst (All (IsColumnTest b size)) (sym ec) is.columns;
   rows = subst (All (IsRowTest b size)) (sym er) (All-push (IsRowTest b size) old.rows.items t is.rows new);
+  columns_divide = subst (All (λ (u : Test). Divides size.width u.band)) (sym ec) is.columns_divide;
+  rows_divide = subst (All (λ (u : Test). Divides size.height u.band)) (sym er) (All-push (λ (u : Test). Divides size.height u.band) old.rows.items t is.rows_divide divides);
+  columns_differ = subst TestsDiffer (sym ec) is.columns_differ;
+  rows_differ = subst TestsDiffer (sym er) (push_differs old.rows.items t is.rows_differ none);
+  needed = λ no_columns no_rows. absurd (push_some old.rows.items t (sym er ∙ no_rows));
 }
 
 -- the bit of a band from that of its interval
@@ -269,9 +297,6 @@ both_parts new old size delay some tall f g (Some n) (Some o) (Some k) grows p q
 pub part_net : (new old : Netlist) (size : Size) (delay : ℕ) (some : 1 ≤ size.width) (tall : 1 ≤ size.height) (passes : (x y : ℕ) → Type 0) (o : Option Net) (n : Net) → Includes new old → IsPartTest old size delay passes o → IsTestNet new old o n → IsFrameTest new size delay passes n
 part_net new old size delay some tall passes None n grows is net = constant_frame_test new size delay some tall old passes true n net (λ x y low high. inl (is x y low high, refl))
 part_net new old size delay some tall passes (Some k) n grows is net = subst (IsFrameTest new size delay passes) (sym net) (frame_test_more new old size delay passes k grows is)
-
-pub counters_size : (b : Netlist) (size : Size) (tests : FrameTests) (k : Counters) → tests.counters ≡ Some k → AreFrameTests b size tests → size_of k.pixel.size ≡ size
-counters_size b size tests k e is = (let has : AreCounters b size k = subst (λ (o : Option Counters). IfSome o (AreCounters b size)) e is.counters in has.size_is)
 
 -- a rectangle of columns and rows
 pub rectangle_frame_test : (new mid old : Netlist) (size : Size) (delay : ℕ) (some : 1 ≤ size.width) (tall : 1 ≤ size.height) (r : Rectangle) (across down both : Option Net) (n : Net) → Includes mid old → Includes new mid → IsPartTest old size delay (λ x y. IsIn r.across x) across → IsPartTest old size delay (λ x y. IsIn r.down y) down →

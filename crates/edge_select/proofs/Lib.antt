@@ -16,3 +16,6 @@ pub mod Inverting
 pub mod Made
 pub mod Beginning
 pub mod Depth
+pub mod Differing
+pub mod Bits
+pub mod Everywhere

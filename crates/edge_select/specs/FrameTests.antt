@@ -1,7 +1,8 @@
 -- The frame tests of a module: one pair of counters, and registers of one bit that test its columns and rows.
-use Rattle.std.specs.Prelude.{◌≡◌, ℕ, ◌+◌, ◌<◌, ◌==◌, nat_le, Bool, if◌then◌else◌, IsTrue, List, [], ◌∷◌, length, slice_get, Option, None, Some, IfSome, All, Contains}
-use Rattle.dk_base.specs.Frames.{Size, column, row}
+use Rattle.std.specs.Prelude.{◌≡◌, ℕ, ◌+◌, ◌-◌, ◌<◌, ◌==◌, nat_le, nat_lt, ◌&&◌, Bool, true, false, if◌then◌else◌, IsTrue, List, [], ◌∷◌, ◌++◌, length, slice_get, Option, None, Some, IfSome, All, Contains}
+use Rattle.dk_base.specs.Frames.{Size, area, column, row}
 use Rattle.dk_base.specs.FrameSizes.{size_of}
+use Rattle.dk_base.specs.Numbers.{bit_count}
 use Rattle.wiring.specs.declared.netlist.Net.{Net}
 use Rattle.wiring.specs.declared.netlist.Net.TheVariants.{Reg}
 use Rattle.wiring.specs.declared.netlist.Holder.{Holder}
@@ -17,7 +18,9 @@ use Rattle.net_build.specs.Control.{is_control, IsControl, IsControlBut, IsContr
 use Rattle.net_build.specs.Depth.{IsWithin}
 use Rattle.net_build.specs.Logic.{Computes}
 use Rattle.net_build.specs.Counters.{taken}
+use Rattle.net_build.specs.Registers.{register_bits, count_bits}
 use Rattle.edge_select.specs.declared.counters.Counters.{Counters}
+use Rattle.edge_select.specs.declared.bands.Band.{Band}
 use Rattle.edge_select.specs.declared.frame_tests.Test.{Test}
 use Rattle.edge_select.specs.declared.frame_tests.FrameTests.{FrameTests}
 use Rattle.edge_select.specs.Bands.{in_band}
@@ -64,6 +67,7 @@ pub record AddsRegisterOf (new old : Netlist) (load : Option Net) (first : ℕ) 
   pub includes : Includes new old
   pub net : IsNet new register
   pub width : net_width new register ≡ 1
+  pub regs : new.regs ≡ old.regs ++ 1 ∷ []
   pub arrays : new.arrays ≡ old.arrays
   pub reads : AddsNoReads new old
   pub takes_test : TakesTest new load first test register
@@ -101,12 +105,48 @@ pub record IsStartTest (b : Netlist) (last : ℕ) (register : Net) : Type 0 wher
   pub value : InEachRun b (λ m before c s. IsTrue (was_reset before) → net_value s register ≡ bit (nat_le last (length (counted m before))))
   pub made : IsControl b (OfNet register)
 
--- the counters are those of the frame's pixels, and each test is one of its columns or rows
+-- some coordinate of the side is in the band, and some is not
+pub record Divides (side : ℕ) (b : Band) : Type 0 where
+  pub inside : (x : ℕ) × (x < side) × (in_band side b x ≡ true)
+  pub outside : (x : ℕ) × (x < side) × (in_band side b x ≡ false)
+
+-- no two of these tests have the same start and the same band
+abbrev pub TestsDiffer : List Test → Type 0
+TestsDiffer tests = (j k : ℕ) (t u : Test) → slice_get tests j ≡ Some t → slice_get tests k ≡ Some u → t.start ≡ u.start → t.band ≡ u.band → j ≡ k
+
+-- none of these tests has this start and this band
+abbrev pub HasNone : List Test → (start : ℕ) → Band → Type 0
+HasNone tests start band = (k : ℕ) (t : Test) → slice_get tests k ≡ Some t → t.start ≡ start → t.band ≡ band → ⊥
+
+-- The counters are those of the frame's pixels, and each test is one of its columns or rows, which some of them pass and some do not. No test is there twice, and there are no counters without a test.
 pub record AreFrameTests (b : Netlist) (size : Size) (tests : FrameTests) : Type 0 where
   pub size_is : size_of tests.size ≡ size
   pub counters : IfSome tests.counters (AreCounters b size)
   pub columns : All (IsColumnTest b size) tests.columns.items
   pub rows : All (IsRowTest b size) tests.rows.items
+  pub columns_divide : All (λ t. Divides size.width t.band) tests.columns.items
+  pub rows_divide : All (λ t. Divides size.height t.band) tests.rows.items
+  pub columns_differ : TestsDiffer tests.columns.items
+  pub rows_differ : TestsDiffer tests.rows.items
+  pub needed : tests.columns.items ≡ [] → tests.rows.items ≡ [] → tests.counters ≡ None
+
+-- the bits of the counters of column and row
+abbrev pub counter_bits : Option Counters → ℕ
+counter_bits None = 0
+counter_bits (Some k) = bit_count (k.pixel.size.width - 1) + bit_count (k.pixel.size.height - 1)
+
+-- the bits of the registers of frame tests: those of the counters, and one for each test
+abbrev pub test_bits : FrameTests → ℕ
+test_bits tests = counter_bits tests.counters + (length tests.columns.items + length tests.rows.items)
+
+-- registers are added for the added tests and their counters, and no other
+abbrev pub CountsTests : (new old : Netlist) (now before : FrameTests) → Type 0
+CountsTests new old now before = register_bits new + test_bits before ≡ register_bits old + test_bits now
+
+-- the bits of the register that shows whether `last` clocks were counted: one where the counters of column and row show the last of them in the first frame, and else those of a count
+abbrev pub start_bits : Option Counters → Size → (last : ℕ) → ℕ
+start_bits None size last = count_bits last
+start_bits (Some k) size last = if nat_lt 1 last && nat_le last (area size) then 1 else count_bits last
 
 -- the counters' registers are none of the copies
 pub record ArePlainly (copies : List ℕ) (k : Counters) : Type 0 where

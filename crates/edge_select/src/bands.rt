@@ -32,7 +32,8 @@ pub struct Band {
 
 // Whether two bands are written alike.
 pub fn same_band(one: Band, other: Band) -> bool
-    ensures { IsTrue result → one ≡ other }
+    ensures yes { IsTrue result → one ≡ other }
+    ensures no { one ≡ other → IsTrue result }
 {
     one.first == other.first && one.last == other.last && one.outside == other.outside
 }
@@ -44,6 +45,7 @@ pub fn moved(interval: Interval, shift: u32, side: u32) -> Band
     requires shift { shift < side }
     requires most { side ≤ MAX_SIDE }
     ensures band { IsBand side result }
+    ensures part { result.last + 1 < side + result.first }
     ensures moved { (x : ℕ) → x < side → IsBitOf (IsIn interval x) (bit (in_band side result ((x + shift) % side))) }
 {
     let first = interval.first + shift;

@@ -1,6 +1,6 @@
 // Tests of the pixels of a module, for each delay: one pair of counters, and registers of one bit.
 
-ghost use Rattle.std.specs.Prelude.{ℕ, ◌≡◌, ◌<◌, ◌-◌, ◌^◌, ◌==◌, true, if◌then◌else◌, List, [], ◌∷◌, ◌++◌, Contains, Some, IfOk, IfSome, OnOk};
+ghost use Rattle.std.specs.Prelude.{ℕ, ◌≡◌, ◌<◌, ◌+◌, ◌-◌, ◌^◌, ◌==◌, true, if◌then◌else◌, IsTrue, List, [], ◌∷◌, ◌++◌, Contains, Some, IfOk, IfSome, IfNone, OnOk};
 ghost use Rattle.dk_base.specs.FrameSizes.{size_of};
 ghost use Rattle.wiring.specs.Netlist.{Netlist, net_width};
 ghost use Rattle.wiring.specs.Snapshot.{net_value};
@@ -10,13 +10,15 @@ ghost use Rattle.net_build.specs.Draft.{IsNet};
 ghost use Rattle.net_build.specs.Control.{is_control, IsControl};
 ghost use Rattle.net_build.specs.Depth.{IsWithin};
 ghost use Rattle.net_build.specs.Logic.{AddsLogic};
+ghost use Rattle.net_build.specs.Registers.{register_bits};
 ghost use Rattle.net_build.specs.Counters.{after, Starts};
 ghost use Rattle.frame_paths.specs.Moves.{IsIn, IsInterval};
 ghost use Rattle.edge_select.specs.Steps.{LeadBy, LeadOn};
 ghost use Rattle.edge_select.specs.Bands.{IsBand, in_band};
 ghost use Rattle.edge_select.specs.Logic.{IsBit};
+ghost use Rattle.edge_select.specs.Pixels.{AllPass};
 ghost use Rattle.edge_select.specs.Passes.{IsRectangle, Passes, PassesOn};
-ghost use Rattle.edge_select.specs.FrameTests.{AddsRegisterOf, takes, AddsBeside, AddsTests, AreCounters, IsColumnTest, IsRowTest, AreFrameTests, IsFrameTest, IsPartTest, IsApart, IsTestOf, sources};
+ghost use Rattle.edge_select.specs.FrameTests.{AddsRegisterOf, takes, AddsBeside, AddsTests, AreCounters, IsColumnTest, IsRowTest, AreFrameTests, IsFrameTest, IsPartTest, IsApart, IsTestOf, sources, Divides, HasNone, counter_bits, CountsTests, test_bits, start_bits};
 
 use crate::bands::{
     Band, band_test, before, equal_to, first_bit, interval_of, moved, one_before, same_band, turned,
@@ -98,6 +100,7 @@ fn column_register(b: &mut Builder, k: &Counters, band: Band) -> Result<Net, Out
     requires counters { AreCounters b.old (size_of k.now.pixel.size) k.now }
     requires band { IsBand k.now.pixel.size.width band }
     ensures adds { OnOk result (AddsBeside b.new b.old (Some k.now) (Some k.now)) }
+    ensures bits { OnOk result (register_bits b.new ≡ register_bits b.old + 1) }
     ensures test { IfOk result (λ n. IsColumnTest b.new (size_of k.now.pixel.size) (record { start = 0; band = band; net = n })) }
 {
     let test = next_column_test(b, k, band)?;
@@ -111,6 +114,7 @@ fn row_register(b: &mut Builder, k: &Counters, start: u32, band: Band) -> Result
     requires start { start < k.now.pixel.size.width }
     requires band { IsBand k.now.pixel.size.height band }
     ensures adds { OnOk result (AddsBeside b.new b.old (Some k.now) (Some k.now)) }
+    ensures bits { OnOk result (register_bits b.new ≡ register_bits b.old + 1) }
     ensures test { IfOk result (λ n. IsRowTest b.new (size_of k.now.pixel.size) (record { start = start; band = band; net = n })) }
 {
     let begins = starts(b, k, start)?;
@@ -119,42 +123,55 @@ fn row_register(b: &mut Builder, k: &Counters, start: u32, band: Band) -> Result
     Ok(net)
 }
 
+// Whether a test has this start and this band.
+fn is_same_test(test: Test, start: u32, band: Band) -> bool
+    ensures yes { IsTrue result → (test.start ≡ start) × (test.band ≡ band) }
+    ensures no { test.start ≡ start → test.band ≡ band → IsTrue result }
+{
+    if test.start != start {
+        return false;
+    }
+    same_band(test.band, band)
+}
+
 // The register of a test that is there.
 fn test_in(tests: &[Test], start: u32, band: Band) -> Option<Net>
     ensures found { IfSome result (λ n. Contains tests.now (record { start = start; band = band; net = n })) }
+    ensures none { IfNone result (HasNone tests.now start band) }
 {
     for k in 0..tests.len() {
         let test = tests[k];
-        if test.start == start {
-            if same_band(test.band, band) {
-                return Some(test.net);
-            }
+        if is_same_test(test, start, band) {
+            return Some(test.net);
         }
     }
     None
 }
 
 // The counters, which are made where they are first needed.
-fn counters_of(b: &mut Builder, tests: &mut FrameTests) -> Result<Counters, OutOfMemory>
-    requires tests { AreFrameTests b.old (size_of tests.old.size) tests.old }
-    ensures adds { OnOk result (AddsTests b.new b.old tests.new tests.old) }
-    ensures tests { OnOk result (AreFrameTests b.new (size_of tests.old.size) tests.new) }
-    ensures counters { IfOk result (λ k. tests.new.counters ≡ Some k) }
+fn counters_of(b: &mut Builder, tests: &FrameTests) -> Result<Counters, OutOfMemory>
+    requires tests { AreFrameTests b.old (size_of tests.now.size) tests.now }
+    ensures adds { IfOk result (λ k. AddsBeside b.new b.old (Some k) tests.now.counters) }
+    ensures counters { IfOk result (AreCounters b.new (size_of tests.now.size)) }
+    ensures bits { IfOk result (λ k. register_bits b.new + counter_bits tests.now.counters ≡ register_bits b.old + counter_bits (Some k)) }
 {
-    if let Some(counters) = tests.counters {
-        return Ok(counters);
+    match tests.counters {
+        Some(counters) => Ok(counters),
+        None => {
+            let size = tests.size;
+            let counters = counted(b, 0, size.width, size.height)?;
+            Ok(counters)
+        }
     }
-    let size = tests.size;
-    let counters = counted(b, 0, size.width, size.height)?;
-    tests.counters = Some(counters);
-    Ok(counters)
 }
 
 // The register that tests the column.
 fn column_test(b: &mut Builder, tests: &mut FrameTests, band: Band) -> Result<Net, OutOfMemory>
     requires tests { AreFrameTests b.old (size_of tests.old.size) tests.old }
     requires band { IsBand tests.old.size.width band }
+    requires divides { Divides tests.old.size.width band }
     ensures adds { OnOk result (AddsTests b.new b.old tests.new tests.old) }
+    ensures registers { OnOk result (CountsTests b.new b.old tests.new tests.old) }
     ensures tests { OnOk result (AreFrameTests b.new (size_of tests.old.size) tests.new) }
     ensures test { IfOk result (λ n. IsColumnTest b.new (size_of tests.old.size) (record { start = 0; band = band; net = n })) }
 {
@@ -168,6 +185,7 @@ fn column_test(b: &mut Builder, tests: &mut FrameTests, band: Band) -> Result<Ne
         band,
         net,
     })?;
+    tests.counters = Some(counters);
     Ok(net)
 }
 
@@ -181,7 +199,9 @@ fn row_test(
     requires tests { AreFrameTests b.old (size_of tests.old.size) tests.old }
     requires start { start < tests.old.size.width }
     requires band { IsBand tests.old.size.height band }
+    requires divides { Divides tests.old.size.height band }
     ensures adds { OnOk result (AddsTests b.new b.old tests.new tests.old) }
+    ensures registers { OnOk result (CountsTests b.new b.old tests.new tests.old) }
     ensures tests { OnOk result (AreFrameTests b.new (size_of tests.old.size) tests.new) }
     ensures test { IfOk result (λ n. IsRowTest b.new (size_of tests.old.size) (record { start = start; band = band; net = n })) }
 {
@@ -191,6 +211,7 @@ fn row_test(
     let counters = counters_of(b, tests)?;
     let net = row_register(b, &counters, start, band)?;
     tests.rows.push(Test { start, band, net })?;
+    tests.counters = Some(counters);
     Ok(net)
 }
 
@@ -204,6 +225,8 @@ fn across_test(
     requires tests { AreFrameTests b.old (size_of tests.old.size) tests.old }
     requires interval { IsInterval tests.old.size.width interval }
     ensures adds { OnOk result (AddsTests b.new b.old tests.new tests.old) }
+    ensures registers { OnOk result (CountsTests b.new b.old tests.new tests.old) }
+    ensures none { OnOk result (((x : ℕ) → x < tests.old.size.width → IsIn interval x) → tests.new ≡ tests.old) }
     ensures tests { OnOk result (AreFrameTests b.new (size_of tests.old.size) tests.new) }
     ensures test { IfOk result (IsPartTest b.new (size_of tests.old.size) delay (λ x y. IsIn interval x)) }
     ensures depth { IfOk result (λ net. IfSome net (λ n. IsWithin b.new (is_control b.new.enable) 1 (OfNet n))) }
@@ -229,6 +252,8 @@ fn down_test(
     requires tests { AreFrameTests b.old (size_of tests.old.size) tests.old }
     requires interval { IsInterval tests.old.size.height interval }
     ensures adds { OnOk result (AddsTests b.new b.old tests.new tests.old) }
+    ensures registers { OnOk result (CountsTests b.new b.old tests.new tests.old) }
+    ensures none { OnOk result (((y : ℕ) → y < tests.old.size.height → IsIn interval y) → tests.new ≡ tests.old) }
     ensures tests { OnOk result (AreFrameTests b.new (size_of tests.old.size) tests.new) }
     ensures test { IfOk result (IsPartTest b.new (size_of tests.old.size) delay (λ x y. IsIn interval y)) }
     ensures depth { IfOk result (λ net. IfSome net (λ n. IsWithin b.new (is_control b.new.enable) 1 (OfNet n))) }
@@ -256,6 +281,8 @@ fn rectangle_of(
     requires tests { AreFrameTests b.old (size_of tests.old.size) tests.old }
     requires rectangle { IsRectangle (size_of tests.old.size) rectangle }
     ensures adds { OnOk result (AddsTests b.new b.old tests.new tests.old) }
+    ensures registers { OnOk result (CountsTests b.new b.old tests.new tests.old) }
+    ensures none { OnOk result (AllPass tests.old.size.width tests.old.size.height (Passes rectangle) → tests.new ≡ tests.old) }
     ensures tests { OnOk result (AreFrameTests b.new (size_of tests.old.size) tests.new) }
     ensures test { IfOk result (IsFrameTest b.new (size_of tests.old.size) delay (Passes rectangle)) }
     ensures depth { IfOk result (λ n. IsWithin b.new (is_control b.new.enable) 2 (OfNet n)) }
@@ -277,6 +304,8 @@ fn test_of(
     requires tests { AreFrameTests b.old (size_of tests.old.size) tests.old }
     requires rectangle { IfSome rectangle (λ r. IsRectangle (size_of tests.old.size) r) }
     ensures adds { OnOk result (AddsTests b.new b.old tests.new tests.old) }
+    ensures registers { OnOk result (CountsTests b.new b.old tests.new tests.old) }
+    ensures none { OnOk result (AllPass tests.old.size.width tests.old.size.height (PassesOn rectangle) → tests.new ≡ tests.old) }
     ensures tests { OnOk result (AreFrameTests b.new (size_of tests.old.size) tests.new) }
     ensures test { IfOk result (IsFrameTest b.new (size_of tests.old.size) delay (PassesOn rectangle)) }
     ensures depth { IfOk result (λ n. IsWithin b.new (is_control b.new.enable) 2 (OfNet n)) }
@@ -298,6 +327,7 @@ impl FrameTests {
     pub fn new(alloc: Global, size: FrameSize) -> FrameTests
         ensures tests { (b : Netlist) → AreFrameTests b (size_of size) result }
         ensures apart { (copies : List ℕ) → IsApart copies result }
+        ensures none { test_bits result ≡ 0 }
         ensures size { result.size ≡ size }
     {
         FrameTests {
@@ -319,6 +349,8 @@ impl FrameTests {
     ) -> Result<Net, OutOfMemory>
         requires tests { AreFrameTests b.old (size_of self.old.size) self.old }
         ensures adds { OnOk result (AddsTests b.new b.old self.new self.old) }
+        ensures registers { OnOk result (CountsTests b.new b.old self.new self.old) }
+        ensures none { OnOk result (AllPass self.old.size.width self.old.size.height (LeadBy (size_of self.old.size) steps.now dx dy) → self.new ≡ self.old) }
         ensures tests { OnOk result (AreFrameTests b.new (size_of self.old.size) self.new) }
         ensures test { IfOk result (IsFrameTest b.new (size_of self.old.size) delay (LeadBy (size_of self.old.size) steps.now dx dy)) }
         ensures depth { IfOk result (λ n. IsWithin b.new (is_control b.new.enable) 2 (OfNet n)) }
@@ -332,6 +364,8 @@ impl FrameTests {
     pub fn leads(&mut self, b: &mut Builder, delay: u64, steps: &[Step]) -> Result<Net, OutOfMemory>
         requires tests { AreFrameTests b.old (size_of self.old.size) self.old }
         ensures adds { OnOk result (AddsTests b.new b.old self.new self.old) }
+        ensures registers { OnOk result (CountsTests b.new b.old self.new self.old) }
+        ensures none { OnOk result (AllPass self.old.size.width self.old.size.height (LeadOn (size_of self.old.size) steps.now) → self.new ≡ self.old) }
         ensures tests { OnOk result (AreFrameTests b.new (size_of self.old.size) self.new) }
         ensures test { IfOk result (IsFrameTest b.new (size_of self.old.size) delay (LeadOn (size_of self.old.size) steps.now)) }
         ensures depth { IfOk result (λ n. IsWithin b.new (is_control b.new.enable) 2 (OfNet n)) }
@@ -345,6 +379,7 @@ impl FrameTests {
     pub fn started(&self, b: &mut Builder, last: u64) -> Result<Net, OutOfMemory>
         requires tests { AreFrameTests b.old (size_of self.now.size) self.now }
         ensures adds { OnOk result (AddsTests b.new b.old self.now self.now) }
+        ensures bits { OnOk result (register_bits b.new ≡ register_bits b.old + start_bits self.now.counters (size_of self.now.size) last) }
         ensures tests { OnOk result (AreFrameTests b.new (size_of self.now.size) self.now) }
         ensures net { IfOk result (IsNet b.new) }
         ensures width { IfOk result (λ n. net_width b.new n ≡ 1) }

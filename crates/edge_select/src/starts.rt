@@ -1,6 +1,6 @@
 // Whether clocks were counted, by the counters of column and row.
 
-ghost use Rattle.std.specs.Prelude.{◌≡◌, ◌-◌, ◌<◌, ◌≤◌, ◌==◌, ◌&&◌, if◌then◌else◌, IsTrue, [], ◌∷◌, Some, IfOk, OnOk};
+ghost use Rattle.std.specs.Prelude.{◌≡◌, ◌+◌, ◌-◌, ◌<◌, ◌≤◌, ◌==◌, ◌&&◌, if◌then◌else◌, IsTrue, [], ◌∷◌, Some, IfOk, OnOk};
 ghost use Rattle.dk_base.specs.Frames.{area, column, row};
 ghost use Rattle.dk_base.specs.FrameSizes.{size_of};
 ghost use Rattle.wiring.specs.declared.netlist.Holder.TheVariants.{OfNet};
@@ -10,9 +10,10 @@ ghost use Rattle.wiring.specs.Clock.{bit};
 ghost use Rattle.net_build.specs.Draft.{IsNet};
 ghost use Rattle.net_build.specs.Control.{IsControl};
 ghost use Rattle.net_build.specs.Logic.{AddsLogic, Computes};
+ghost use Rattle.net_build.specs.Registers.{register_bits};
 ghost use Rattle.net_build.specs.Counters.{Starts};
 ghost use Rattle.edge_select.specs.Pixels.{HasPixel};
-ghost use Rattle.edge_select.specs.FrameTests.{AddsBeside, AreCounters, IsStartTest};
+ghost use Rattle.edge_select.specs.FrameTests.{AddsBeside, AreCounters, IsStartTest, start_bits};
 
 use crate::bands::equal_to;
 use crate::counters::Counters;
@@ -80,6 +81,7 @@ fn start_register(b: &mut Builder, k: &Counters, last: u64) -> Result<Net, OutOf
     requires some { 1 < last }
     requires most { last ≤ area (size_of k.now.pixel.size) }
     ensures adds { OnOk result (AddsBeside b.new b.old (Some k.now) (Some k.now)) }
+    ensures bits { OnOk result (register_bits b.new ≡ register_bits b.old + 1) }
     ensures test { IfOk result (IsStartTest b.new last) }
 {
     let spot = last_spot(k.pixel.size, last);
@@ -106,7 +108,8 @@ fn unless_reset(b: &mut Builder, register: Net) -> Result<Net, OutOfMemory>
 
 // Whether a register is set at a pixel of the first frame. The count of one clock is one register of one bit too, and needs no test of a pixel.
 fn is_set_at_a_pixel(size: FrameSize, last: u64) -> bool
-    ensures { IsTrue result → (1 < last) × (last ≤ area (size_of size)) }
+    ensures yes { IsTrue result → (1 < last) × (last ≤ area (size_of size)) }
+    ensures no { 1 < last → last ≤ area (size_of size) → IsTrue result }
 {
     if last < 2 {
         return false;
@@ -118,6 +121,7 @@ fn is_set_at_a_pixel(size: FrameSize, last: u64) -> bool
 pub fn started_by(b: &mut Builder, k: &Counters, last: u64) -> Result<Net, OutOfMemory>
     requires counters { AreCounters b.old (size_of k.now.pixel.size) k.now }
     ensures adds { OnOk result (AddsBeside b.new b.old (Some k.now) (Some k.now)) }
+    ensures bits { OnOk result (register_bits b.new ≡ register_bits b.old + start_bits (Some k.now) (size_of k.now.pixel.size) last) }
     ensures net { IfOk result (IsNet b.new) }
     ensures width { IfOk result (λ n. net_width b.new n ≡ 1) }
     ensures starts { IfOk result (Starts b.new last) }

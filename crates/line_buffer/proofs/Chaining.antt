@@ -47,7 +47,7 @@ net_push : (feed : Net) (taps : List Net) (tap : Net) → last_net feed (taps ++
 net_push feed [] tap = refl
 net_push feed (t ∷ taps) tap = net_push t taps tap
 
-shapes_push : (width low : ℕ) (xs : List ℕ) (x : ℕ) → segment_shapes width low (xs ++ x ∷ []) ≡ segment_shapes width low xs ++ (record { width = width; depth = x - last_of low xs }) ∷ []
+pub shapes_push : (width low : ℕ) (xs : List ℕ) (x : ℕ) → segment_shapes width low (xs ++ x ∷ []) ≡ segment_shapes width low xs ++ (record { width = width; depth = x - last_of low xs }) ∷ []
 shapes_push width low [] x = refl
 shapes_push width low (y ∷ xs) x = ap (λ (l : List Shape). (record { width = width; depth = y - low }) ∷ l) (shapes_push width y xs x)
 
@@ -55,7 +55,7 @@ shapes_long : (width low : ℕ) (xs : List ℕ) → length (segment_shapes width
 shapes_long width low [] = refl
 shapes_long width low (x ∷ xs) = ap suc (shapes_long width x xs)
 
-later_push : (ages : List ℕ) (age : ℕ) → 0 < age → later (ages ++ age ∷ []) ≡ later ages ++ age ∷ []
+pub later_push : (ages : List ℕ) (age : ℕ) → 0 < age → later (ages ++ age ∷ []) ≡ later ages ++ age ∷ []
 later_push [] zero some = absurd (omega (arith, some))
 later_push [] (suc a) some = refl
 later_push (zero ∷ ages) age some = refl

@@ -19,3 +19,4 @@ pub mod Bits
 pub mod Lasting
 pub mod Shared
 pub mod Depth
+pub mod Counted

@@ -1,6 +1,6 @@
 // Delay lines in block memory: arrays that are read one clock ahead, into a register.
 
-ghost use Rattle.std.specs.Prelude.{◌≡◌, ◌≤◌, ℕ, Bool, true, [], ◌∷◌, length, IfOk, OnOk};
+ghost use Rattle.std.specs.Prelude.{◌≡◌, ◌≤◌, ℕ, Bool, true, [], ◌∷◌, ◌++◌, length, IfOk, OnOk};
 ghost use Rattle.wiring.specs.declared.netlist.Net.TheVariants.{Reg};
 ghost use Rattle.wiring.specs.Netlist.{net_width};
 ghost use Rattle.wiring.specs.Sizes.{IsWidth, IsDepth};
@@ -34,6 +34,7 @@ pub fn block_line(
     ensures line { OnOk result (IsBlockLine b.new (length b.old.arrays) words value (length b.old.regs)) }
     ensures once { OnOk result ((long : ℕ → Bool) → long words ≡ true → AreReadAndPut long b.new b.old) }
     ensures copy { IfOk result (λ n. n ≡ Reg (length b.old.regs)) }
+    ensures regs { OnOk result (b.new.regs ≡ b.old.regs ++ width ∷ []) }
     ensures net { IfOk result (IsNet b.new) }
     ensures word_width { IfOk result (λ n. net_width b.new n ≡ width) }
 {

@@ -1,6 +1,6 @@
 // Chains: an array for each two neighbouring ages, of which one word is read and then written in each clock, or read one clock ahead.
 
-ghost use Rattle.std.specs.Prelude.{◌≡◌, ℕ, ◌+◌, ◌<◌, ◌≤◌, [], length, Bool, true, false, Some, IfOk, OnOk};
+ghost use Rattle.std.specs.Prelude.{◌≡◌, ℕ, ◌+◌, ◌<◌, ◌≤◌, [], ◌∷◌, ◌-◌, length, Bool, true, false, Some, IfOk, OnOk};
 ghost use Rattle.dk_base.specs.declared.TheConstants.{MAX_BUFFER_BITS};
 ghost use Rattle.wiring.specs.Netlist.{net_width};
 ghost use Rattle.wiring.specs.Sizes.{IsWidth, IsDepth};
@@ -12,7 +12,7 @@ ghost use Rattle.line_buffer.specs.Depths.{line_operators};
 ghost use Rattle.line_buffer.specs.Buffers.{CanBeBuffered, AddsBuffer, IsBuffer, IsDelay, AreMadeOfBuffer};
 ghost use Rattle.line_buffer.specs.Indices.{is_long, AreReadOnce};
 ghost use Rattle.line_buffer.specs.Chains.{IsSegment, IsStep, IsChain};
-ghost use Rattle.line_buffer.specs.SharedCounters.{AreTurns};
+ghost use Rattle.line_buffer.specs.SharedCounters.{AreTurns, CountsTurns};
 
 use crate::blocks::block_line;
 use crate::images::BufferedImage;
@@ -56,6 +56,7 @@ fn line_segment(
     ensures includes { Includes b.new b.old }
     ensures turns { OnOk result (AreTurns b.new turns.new) }
     ensures segment { IfOk result (λ n. (long : ℕ → Bool) → long words ≡ false → IsSegment b.new b.old width words long from n) }
+    ensures counts { OnOk result ((long : ℕ → Bool) → long words ≡ false → CountsTurns b.new b.old turns.new turns.old long ((record { width = width; depth = words }) ∷ [])) }
     ensures net { IfOk result (IsNet b.new) }
     ensures wide { IfOk result (λ n. net_width b.new n ≡ width) }
 {
@@ -80,6 +81,7 @@ fn block_segment(
     ensures includes { Includes b.new b.old }
     ensures turns { OnOk result (AreTurns b.new turns.new) }
     ensures segment { IfOk result (λ n. (long : ℕ → Bool) → long words ≡ true → IsSegment b.new b.old width words long from n) }
+    ensures counts { OnOk result ((long : ℕ → Bool) → long words ≡ true → CountsTurns b.new b.old turns.new turns.old long ((record { width = width; depth = words }) ∷ [])) }
     ensures net { IfOk result (IsNet b.new) }
     ensures wide { IfOk result (λ n. net_width b.new n ≡ width) }
 {
@@ -106,6 +108,7 @@ fn segment(
     ensures includes { Includes b.new b.old }
     ensures turns { OnOk result (AreTurns b.new turns.new) }
     ensures segment { IfOk result (IsSegment b.new b.old width words (is_long least) from) }
+    ensures counts { OnOk result (CountsTurns b.new b.old turns.new turns.old (is_long least) ((record { width = width; depth = words }) ∷ [])) }
     ensures net { IfOk result (IsNet b.new) }
     ensures wide { IfOk result (λ n. net_width b.new n ≡ width) }
 {
@@ -136,6 +139,8 @@ fn next_tap(
     ensures includes { Includes b.new b.old }
     ensures turns { OnOk result (AreTurns b.new turns.new) }
     ensures step { IfOk result (IsStep b.new b.old width (is_long least) from age) }
+    ensures stays { OnOk result (age ≡ from.age → CountsTurns b.new b.old turns.new turns.old (is_long least) []) }
+    ensures goes { OnOk result (from.age < age → CountsTurns b.new b.old turns.new turns.old (is_long least) ((record { width = width; depth = age - from.age }) ∷ [])) }
 {
     if age == from.age {
         return Ok(from);
@@ -159,6 +164,7 @@ fn chained(
     ensures includes { Includes b.new b.old }
     ensures turns { OnOk result (AreTurns b.new turns.new) }
     ensures chain { IfOk result (λ taps. IsChain b.new b.old image.entry.width (is_long least) image.entry.net image.entry.ages.now taps.items) }
+    ensures counts { OnOk result (CountsTurns b.new b.old turns.new turns.old (is_long least) (chain_shapes image.entry.width image.entry.ages.now)) }
 {
     let mut nets = Vec::new(alloc);
     let mut last = Tap {
@@ -193,6 +199,7 @@ pub fn chain(
         (length b.old.arrays + length (chain_shapes image.entry.width image.entry.ages.now)) image.entry.ages.now taps.items) }
     ensures fills { OnOk result (AreFilled b.new (λ x. true) [] (length b.old.arrays)
         (length b.old.arrays + length (chain_shapes image.entry.width image.entry.ages.now)) image.entry.net) }
+    ensures counts { OnOk result (CountsTurns b.new b.old turns.new turns.old (λ words. false) (chain_shapes image.entry.width image.entry.ages.now)) }
 {
     let nets = chained(alloc, b, turns, image, None)?;
     Ok(nets)
@@ -212,6 +219,7 @@ pub fn block_chain(
     ensures includes { Includes b.new b.old }
     ensures turns { OnOk result (AreTurns b.new turns.new) }
     ensures chain { IfOk result (λ taps. IsChain b.new b.old image.entry.width (is_long (Some least)) image.entry.net image.entry.ages.now taps.items) }
+    ensures counts { OnOk result (CountsTurns b.new b.old turns.new turns.old (is_long (Some least)) (chain_shapes image.entry.width image.entry.ages.now)) }
 {
     let nets = chained(alloc, b, turns, image, Some(least))?;
     Ok(nets)

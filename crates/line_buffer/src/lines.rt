@@ -1,6 +1,6 @@
 // Delay lines: arrays of which a word is read and then written in each clock.
 
-ghost use Rattle.std.specs.Prelude.{◌≡◌, [], ◌∷◌, ◌++◌, IfOk, OnOk};
+ghost use Rattle.std.specs.Prelude.{◌≡◌, false, [], ◌∷◌, ◌++◌, IfOk, OnOk};
 ghost use Rattle.wiring.specs.Netlist.{net_width};
 ghost use Rattle.wiring.specs.Sizes.{IsWidth, IsDepth};
 ghost use Rattle.net_build.specs.Includes.{Includes};
@@ -10,7 +10,7 @@ ghost use Rattle.net_build.specs.Counters.{control_nets, unless_held};
 ghost use Rattle.wiring.specs.Snapshot.{net_value};
 ghost use Rattle.line_buffer.specs.Fills.{IsUnlessHeld};
 ghost use Rattle.line_buffer.specs.AddedLines.{AddsLine};
-ghost use Rattle.line_buffer.specs.SharedCounters.{AreTurns};
+ghost use Rattle.line_buffer.specs.SharedCounters.{AreTurns, CountsTurns};
 
 use crate::sharing::{Turns, turning_index};
 use dk_base::OutOfMemory;
@@ -61,6 +61,7 @@ pub fn delay_line(
     ensures includes { Includes b.new b.old }
     ensures turns { OnOk result (AreTurns b.new turns.new) }
     ensures line { IfOk result (AddsLine b.new b.old width words value) }
+    ensures counts { OnOk result (CountsTurns b.new b.old turns.new turns.old (λ words. false) ((record { width = width; depth = words }) ∷ [])) }
 {
     let index = turning_index(b, turns, words)?;
     b.law();

@@ -1,6 +1,6 @@
 // Rings: one array for an image, of which a word is read for each age.
 
-ghost use Rattle.std.specs.Prelude.{◌≡◌, ℕ, ◌+◌, ◌-◌, ◌<◌, ◌≤◌, ◌^◌, [], ◌∷◌, length, true, slice_get, Some, All, IfOk, OnOk};
+ghost use Rattle.std.specs.Prelude.{◌≡◌, ℕ, ◌+◌, ◌-◌, ◌<◌, ◌≤◌, ◌^◌, [], ◌∷◌, length, true, false, slice_get, Some, All, IfOk, OnOk};
 ghost use Rattle.dk_base.specs.declared.TheConstants.{MAX_BUFFER_BITS};
 ghost use Rattle.wiring.specs.declared.netlist.Net.{Net};
 ghost use Rattle.wiring.specs.Netlist.{net_width};
@@ -14,7 +14,7 @@ ghost use Rattle.line_buffer.specs.Places.{depth_of, ring_shapes, ring_place};
 ghost use Rattle.line_buffer.specs.Rings.{place_worth, IsRing, AddsTaps, IsRingTap, AreRingTaps};
 ghost use Rattle.line_buffer.specs.Fills.{AreFilled};
 ghost use Rattle.line_buffer.specs.Depths.{ring_operators};
-ghost use Rattle.line_buffer.specs.SharedCounters.{AreTurns};
+ghost use Rattle.line_buffer.specs.SharedCounters.{AreTurns, CountsTurns};
 ghost use Rattle.line_buffer.specs.Buffers.{CanBeBuffered, AddsBuffer, IsBuffer, IsDelay, AreMadeOfBuffer};
 
 use crate::images::BufferedImage;
@@ -167,6 +167,7 @@ fn ring_array(
         (length b.old.arrays + length (ring_shapes image.entry.width image.entry.ages.now)) image.entry.ages.now taps.items) }
     ensures fills { OnOk result (AreFilled b.new (λ x. true) [] (length b.old.arrays)
         (length b.old.arrays + length (ring_shapes image.entry.width image.entry.ages.now)) image.entry.net) }
+    ensures counts { OnOk result (CountsTurns b.new b.old turns.new turns.old (λ words. false) (ring_shapes image.entry.width image.entry.ages.now)) }
 {
     let line = delay_line(b, turns, image.width, words, image.net)?;
     let count = u64::from(words);
@@ -201,6 +202,7 @@ pub fn ring(
         (length b.old.arrays + length (ring_shapes image.entry.width image.entry.ages.now)) image.entry.ages.now taps.items) }
     ensures fills { OnOk result (AreFilled b.new (λ x. true) [] (length b.old.arrays)
         (length b.old.arrays + length (ring_shapes image.entry.width image.entry.ages.now)) image.entry.net) }
+    ensures counts { OnOk result (CountsTurns b.new b.old turns.new turns.old (λ words. false) (ring_shapes image.entry.width image.entry.ages.now)) }
 {
     let depth = greatest(image.ages);
     if depth == 0 {

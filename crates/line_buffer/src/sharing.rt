@@ -1,12 +1,15 @@
 // The counters of arrays: arrays of the same number of words share one.
 
-ghost use Rattle.std.specs.Prelude.{[], IfOk, IfSome, OnOk};
+ghost use Rattle.std.specs.Prelude.{◌≡◌, ◌≤◌, ◌==◌, ◌+◌, ◌-◌, ℕ, [], IfOk, IfSome, OnOk};
+ghost use Rattle.std.specs.Option.{is_some};
+ghost use Rattle.std.specs.List.{list_any};
 ghost use Rattle.wiring.specs.Netlist.{Netlist};
 ghost use Rattle.wiring.specs.Sizes.{IsDepth};
 ghost use Rattle.net_build.specs.Includes.{Includes};
+ghost use Rattle.net_build.specs.Registers.{register_bits, count_bits, with_new};
 ghost use Rattle.line_buffer.specs.Buffers.{AddsBuffer};
 ghost use Rattle.line_buffer.specs.Lines.{AreIndices};
-ghost use Rattle.line_buffer.specs.SharedCounters.{IsTurn, AreTurns};
+ghost use Rattle.line_buffer.specs.SharedCounters.{IsTurn, AreTurns, line_words, block_words, turn_bits};
 
 use dk_base::OutOfMemory;
 use net_build::{Builder, Indices, counter, cycle, gate, number};
@@ -23,7 +26,9 @@ pub struct Turns {
 impl Turns {
     /// No counters.
     pub fn new(alloc: Global) -> Turns
-        ensures { (b : Netlist) → AreTurns b result }
+        ensures turns { (b : Netlist) → AreTurns b result }
+        ensures lines { line_words result ≡ [] }
+        ensures blocks { block_words result ≡ [] }
     {
         Turns {
             lines: Vec::new(alloc),
@@ -35,6 +40,7 @@ impl Turns {
 // The counter of arrays of this many words, if there is one.
 fn line_turn(turns: &Turns, words: u32) -> Option<Net>
     ensures found { IfSome result (λ n. (b : Netlist) → AreTurns b turns.now → IsTurn b words n) }
+    ensures listed { is_some result ≡ list_any (λ (y : ℕ). y == words) (line_words turns.now) }
 {
     for k in 0..turns.lines.len() {
         let (count, net) = turns.lines[k];
@@ -48,6 +54,7 @@ fn line_turn(turns: &Turns, words: u32) -> Option<Net>
 // The same of arrays that are read one clock ahead.
 fn block_turn(turns: &Turns, words: u32) -> Option<Indices>
     ensures found { IfSome result (λ at. (b : Netlist) → AreTurns b turns.now → AreIndices b words at) }
+    ensures listed { is_some result ≡ list_any (λ (y : ℕ). y == words) (block_words turns.now) }
 {
     for k in 0..turns.blocks.len() {
         let (count, at) = turns.blocks[k];
@@ -63,6 +70,7 @@ fn no_turn(b: &mut Builder) -> Result<Net, OutOfMemory>
     ensures includes { Includes b.new b.old }
     ensures adds { OnOk result (AddsBuffer b.new b.old [] []) }
     ensures turn { IfOk result (IsTurn b.new 1) }
+    ensures regs { b.new.regs ≡ b.old.regs }
 {
     let net = gate(b, Right::Copy(number(1, 0)))?;
     Ok(net)
@@ -74,6 +82,7 @@ fn new_turn(b: &mut Builder, words: u32) -> Result<Net, OutOfMemory>
     ensures includes { Includes b.new b.old }
     ensures adds { OnOk result (AddsBuffer b.new b.old [] []) }
     ensures turn { IfOk result (IsTurn b.new words) }
+    ensures bits { OnOk result (register_bits b.new ≡ register_bits b.old + count_bits (words - 1)) }
 {
     if words == 1 {
         let net = no_turn(b)?;
@@ -92,6 +101,9 @@ pub fn turning_index(b: &mut Builder, turns: &mut Turns, words: u32) -> Result<N
     ensures adds { OnOk result (AddsBuffer b.new b.old [] []) }
     ensures turn { IfOk result (IsTurn b.new words) }
     ensures turns { OnOk result (AreTurns b.new turns.new) }
+    ensures lines { OnOk result (line_words turns.new ≡ with_new (line_words turns.old) words) }
+    ensures blocks { OnOk result (block_words turns.new ≡ block_words turns.old) }
+    ensures bits { OnOk result (register_bits b.new + turn_bits turns.old ≡ register_bits b.old + turn_bits turns.new) }
 {
     if let Some(net) = line_turn(turns, words) {
         return Ok(net);
@@ -113,6 +125,9 @@ pub fn turning_indices(
     ensures adds { OnOk result (AddsBuffer b.new b.old [] []) }
     ensures indices { IfOk result (AreIndices b.new words) }
     ensures turns { OnOk result (AreTurns b.new turns.new) }
+    ensures lines { OnOk result (line_words turns.new ≡ line_words turns.old) }
+    ensures blocks { OnOk result (block_words turns.new ≡ with_new (block_words turns.old) words) }
+    ensures bits { OnOk result (2 ≤ words → register_bits b.new + turn_bits turns.old ≡ register_bits b.old + turn_bits turns.new) }
 {
     if let Some(at) = block_turn(turns, words) {
         return Ok(at);
@@ -128,6 +143,7 @@ fn new_turns(b: &mut Builder, words: u32) -> Result<Indices, OutOfMemory>
     ensures includes { Includes b.new b.old }
     ensures adds { OnOk result (AddsBuffer b.new b.old [] []) }
     ensures indices { IfOk result (AreIndices b.new words) }
+    ensures bits { OnOk result (2 ≤ words → register_bits b.new ≡ register_bits b.old + count_bits (words - 1)) }
 {
     let last = u64::from(words) - 1;
     let indices = cycle(b, last)?;

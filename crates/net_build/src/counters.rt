@@ -1,6 +1,6 @@
 // Counters of clocks.
 
-ghost use Rattle.std.specs.Prelude.{suc, ◌≡◌, ◌%◌, min, ◌<◌, ◌==◌, ◌^◌, true, if◌then◌else◌, [], ◌∷◌, ◌++◌, length, IfOk, OnOk};
+ghost use Rattle.std.specs.Prelude.{suc, ◌≡◌, ◌+◌, ◌%◌, min, ◌<◌, ◌==◌, ◌^◌, true, if◌then◌else◌, [], ◌∷◌, ◌++◌, length, IfOk, OnOk};
 ghost use Rattle.dk_base.specs.Numbers.{bit_count};
 ghost use Rattle.wiring.specs.declared.right.Atom.TheVariants as atom;
 ghost use Rattle.wiring.specs.Netlist.{net_width, reset_net};
@@ -14,6 +14,7 @@ ghost use Rattle.net_build.specs.Runs.{StaysBelow};
 ghost use Rattle.net_build.specs.Control.{is_control, IsControl};
 ghost use Rattle.net_build.specs.Depth.{IsWithin, IsOver};
 ghost use Rattle.net_build.specs.Logic.{AddsLogic, Computes};
+ghost use Rattle.net_build.specs.Registers.{register_bits, count_bits};
 ghost use Rattle.net_build.specs.Counters.{after, reached, control_nets, unless_held, taken, loaded, IsLoaded, Counts, IsBehindReset, AddsRegister, AddsControl, Starts, IsIndexNet, Cycles};
 
 use crate::builder::Builder;
@@ -298,6 +299,7 @@ pub fn started(b: &mut Builder, last: u64) -> Result<Net, OutOfMemory>
     ensures width { IfOk result (λ n. net_width b.new n ≡ 1) }
     ensures starts { IfOk result (Starts b.new last) }
     ensures control { IfOk result (λ n. IsControl b.new (OfNet n)) }
+    ensures bits { OnOk result (register_bits b.new ≡ register_bits b.old + count_bits last) }
 {
     if last == 0 {
         let reset = b.rst();

@@ -6,7 +6,7 @@ ghost use Rattle.dk_top.specs.Command.{rewrite as rewrite_command, IsRewriting};
 ghost use Rattle.dk_top.specs.Verdict.{CanBeRewritten};
 ghost use Rattle.dk_top.specs.Rewriting.{IsRewriteOf, AreRewriteLines};
 ghost use Rattle.dk_top.specs.Reading.{OfFile, Stops, IsRewriteEnding, WritesBoth, EndsInLine};
-ghost use Rattle.dk_top.specs.State.{LeavesText, IsPrefix, OthersStay};
+ghost use Rattle.dk_top.specs.State.{LeavesText, IsPrefix, OthersStay, HasOwnFile};
 
 use super::cutting::cut_text;
 use super::narrowing::narrow_text;
@@ -86,6 +86,7 @@ fn write_both<D: Desk>(desk: &mut D, name: &str, text: &[u8], line: &[u8]) -> Re
     ensures files { OthersStay name.now (D.outside desk.old).files (D.outside desk.new).files }
     ensures files_stay { (D.outside desk.new).file.stage ≢ Stage.Open → (D.outside desk.new).files
         ≡ (D.outside desk.old).files }
+    ensures own { HasOwnFile (D.outside desk.new) }
     ensures only { WritesBoth (D.outside desk.old) (D.outside desk.new) }
     ensures cause { HasCauseIn (IsErr result) (D.outside desk.old).output_failures
         (D.outside desk.new).output_failures }

@@ -20,6 +20,7 @@ ghost use Rattle.dk_top.specs.Reading.{ReadsAndNotes, OfFile, AreRead, IsSourceE
 use crate::commands::compiling::read_compiled;
 use crate::commands::streaming::{is_one_port, run_streamed};
 use crate::files::write_file;
+use crate::laws::notes_agree_law;
 use crate::reading::read_images;
 use crate::work::Work;
 use cycle_sim::Fill;
@@ -85,6 +86,7 @@ pub fn clocked<D: Desk>(
 {
     one_source_law();
     drive_shows_law();
+    notes_agree_law();
     compiled.ir.law();
     compiled.plan.law();
     let size = compiled.ir.size();

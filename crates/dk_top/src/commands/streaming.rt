@@ -11,6 +11,7 @@ ghost use Rattle.dk_top.specs.Compiling.{IsCompiledFrom};
 ghost use Rattle.dk_top.specs.Streaming.{IsOnePort};
 ghost use Rattle.dk_top.specs.Streams.{StreamsFrom, OfCompiled, RunsStream, RunsOn};
 
+use crate::laws::notes_agree_law;
 use dk_base::FrameSize;
 use dk_compile::{Compiled, drive_shows_law, one_at_age_law, one_source_law};
 use dk_desk::{Desk, InSlot, Stage};
@@ -149,5 +150,6 @@ pub fn run_streamed<D: Desk>(
     one_file_law();
     drive_shows_law();
     streams_most();
+    notes_agree_law();
     run_lines(alloc, desk, compiled, module, image, out)
 }

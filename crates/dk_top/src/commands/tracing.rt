@@ -8,7 +8,7 @@ ghost use Rattle.stimulus.specs.Given.{AreBenchFrames};
 ghost use Rattle.trace_bench.specs.Tracers.{IsTracer};
 ghost use Rattle.dk_top.specs.Command.{trace as trace_command};
 ghost use Rattle.dk_top.specs.Tracing.{IsTraceAnswer, IsStoredTrace};
-ghost use Rattle.dk_top.specs.State.{CreatesNothing, CreatesTrace, OthersStay};
+ghost use Rattle.dk_top.specs.State.{CreatesNothing, CreatesTrace, OthersStay, HasOwnFile};
 ghost use Rattle.dk_top.specs.Simulating.{OfInput};
 ghost use Rattle.dk_top.specs.Reading.{TellsNoText, TellsNoImages};
 
@@ -52,6 +52,7 @@ fn write_trace<D: Desk>(
     ensures files { OthersStay name.now (D.outside desk.old).files (D.outside desk.new).files }
     ensures files_stay { (D.outside desk.new).file.stage ≢ Stage.Open → (D.outside desk.new).files
         ≡ (D.outside desk.old).files }
+    ensures own { HasOwnFile (D.outside desk.new) }
     ensures only { CreatesOnly (D.outside desk.old) (D.outside desk.new) }
     ensures cause { HasCauseIn (result ≡ Ending.WriteFault) (D.outside desk.old).output_failures
         (D.outside desk.new).output_failures }
@@ -107,6 +108,7 @@ fn traced<D: Desk>(
     ensures files { OthersStay name.now (D.outside desk.old).files (D.outside desk.new).files }
     ensures files_stay { (D.outside desk.new).file.stage ≢ Stage.Open → (D.outside desk.new).files
         ≡ (D.outside desk.old).files }
+    ensures own { HasOwnFile (D.outside desk.new) }
     ensures only { CreatesOnly (D.outside desk.old) (D.outside desk.new) }
     ensures cause { HasCauseIn (result ≡ Ending.WriteFault) (D.outside desk.old).output_failures
         (D.outside desk.new).output_failures }

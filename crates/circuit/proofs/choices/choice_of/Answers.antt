@@ -6,6 +6,8 @@ use Rattle.net_build.proofs.Parts.{Includes-refl, includes_on}
 use Rattle.circuit.specs.Rounds.{type_at}
 use Rattle.circuit.specs.Leaves.{leaf_at}
 use Rattle.circuit.specs.Reads.{IsChoice}
+use Rattle.circuit.specs.Registers.{IsFixedLeaf}
+use Rattle.circuit.proofs.Registered.{needed_none, needed_on, fixed_at}
 use Rattle.circuit.proofs.Lasting.{reading_more}
 use Rattle.circuit.proofs.Placing.{tests_none, tests_on}
 use Rattle.circuit.proofs.Choosing.{choice_none}
@@ -14,7 +16,7 @@ use Rattle.circuit.proofs.choices.choice_of.Goals as goal
 pub loop-read-init : goal.loop-read-init
 loop-read-init c =
     let r = c.args.reader.now in
-    record { adds = tests_none c.args.b.now c.args.tests.now; tests = c.requires.tests; choice = λ first inc. choice_none c.args.b.now first r.plan.now r.taps.now r.image (leaf_at c.args.leaf.image c.args.leaf.steps.now) (width_of (type_at r.ir.now c.args.leaf.image)) }
+    record { adds = tests_none c.args.b.now c.args.tests.now; needed = needed_none c.args.b.now c.args.tests.now (IsFixedLeaf r.plan.now r.image (leaf_at c.args.leaf.image c.args.leaf.steps.now)); tests = c.requires.tests; choice = λ first inc. choice_none c.args.b.now first r.plan.now r.taps.now r.image (leaf_at c.args.leaf.image c.args.leaf.steps.now) (width_of (type_at r.ir.now c.args.leaf.image)) }
 
 pub with_read-requires-clause-reading : goal.with_read-requires-clause-reading
 with_read-requires-clause-reading c =
@@ -37,6 +39,9 @@ loop-read-preserved c =
     let i = c.loop-read.read-index in
     record {
       adds = tests_on c.args.b.now c.loop-read.b c.with_read.new.b c.args.tests.now c.loop-read.tests c.with_read.new.tests c.loop-read.invariant.adds c.in_ok-choice.ensures.adds;
+      needed =
+          let P = IsFixedLeaf r.plan.now r.image (leaf_at c.args.leaf.image c.args.leaf.steps.now) in
+          needed_on c.with_read.new.b c.loop-read.b c.args.b.now c.with_read.new.tests c.loop-read.tests c.args.tests.now P _ P c.loop-read.invariant.needed c.in_ok-choice.ensures.needed (λ fixed. fixed) (fixed_at r.plan.now r.image (leaf_at c.args.leaf.image c.args.leaf.steps.now) items i _ c.reads-read-items.ensures c.loop-read-test.true);
       tests = c.in_ok-choice.ensures.tests;
       choice = λ first inc.
           subst (λ (rs : List LiveRead). IsChoice c.with_read.new.b first r.plan.now r.taps.now r.image rs (leaf_at c.args.leaf.image c.args.leaf.steps.now) (width_of (type_at r.ir.now c.args.leaf.image)) c.in_ok-choice.choice) (sym (take_more items i _ c.loop-read-test.true))
@@ -57,3 +62,6 @@ returns-clause-choice c first inc =
     let long : length items ≤ i = omega (arith, c.loop-read-test.false) in
     let whole = take_all i items long ∙ c.reads-read-items.ensures in
     subst (λ (rs : List LiveRead). IsChoice c.loop-read.b first r.plan.now r.taps.now r.image rs (leaf_at c.args.leaf.image c.args.leaf.steps.now) (width_of (type_at r.ir.now c.args.leaf.image)) c.loop-read.choice) whole (c.loop-read.invariant.choice first inc)
+
+pub returns-clause-needed : goal.returns-clause-needed
+returns-clause-needed c = c.loop-read.invariant.needed

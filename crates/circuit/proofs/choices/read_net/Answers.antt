@@ -11,6 +11,8 @@ use Rattle.edge_select.proofs.Framed.{tests_more}
 use Rattle.circuit.specs.Taps.{size_in}
 use Rattle.circuit.proofs.Taking.{chosen_is_read, type_wide}
 use Rattle.circuit.proofs.Typing.{type_is}
+use Rattle.circuit.proofs.Registered.{needed_logic, needed_on}
+use Rattle.circuit.specs.Registers.{IsFixedLeaf}
 use Rattle.circuit.proofs.choices.read_net.Goals as goal
 
 pub net_of-requires : goal.net_of-requires
@@ -36,3 +38,8 @@ returns-clause-net c first inc =
     subst (λ (t : Ty). IsReadNet c.net_of.new.b first r.plan.now r.taps.now r.image (leaf_at c.args.leaf.image c.args.leaf.steps.now) (width_of t) c.in_ok-net.net) (sym typed)
     (chosen_is_read c.net_of.new.b c.choice_of.new.b first r.plan.now r.taps.now r.image (leaf_at c.args.leaf.image c.args.leaf.steps.now) (width_of (type_at r.ir.now c.args.leaf.image)) c.in_ok-choice.choice c.in_ok-net.net c.in_ok-net.ensures.logic.includes (c.in_ok-choice.ensures.choice first inc)
     (subst (λ (w : ℕ). IsNetOf c.net_of.new.b c.choice_of.new.b w c.in_ok-choice.choice c.in_ok-net.net) bits c.in_ok-net.ensures.net))
+
+pub returns-clause-needed : goal.returns-clause-needed
+returns-clause-needed c =
+    let P = IsFixedLeaf c.args.reader.now.plan.now c.args.reader.now.image (leaf_at c.args.leaf.image c.args.leaf.steps.now) in
+    needed_on c.net_of.new.b c.choice_of.new.b c.args.b.now c.choice_of.new.tests c.choice_of.new.tests c.args.tests.now P P P c.in_ok-choice.ensures.needed (needed_logic c.net_of.new.b c.choice_of.new.b c.choice_of.new.tests P c.in_ok-net.ensures.logic) (λ fixed. fixed) (λ fixed. fixed)

@@ -19,6 +19,7 @@ returns c = record {
   closed = record {
     last = c.all_outs.new.b;
     adds = c.in_ok-outs.ensures.adds;
+    starts = c.in_ok-outs.ensures.bits;
     draft = c.law.ensures.draft;
     outs = c.in_ok-outs.outs.items;
     are_outs = c.in_ok-outs.ensures.outs;

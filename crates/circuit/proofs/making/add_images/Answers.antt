@@ -8,6 +8,7 @@ loop-k-preserved g c =
     record {
       enable = c.in_ok-add_image.ensures.enable ∙ c.loop-k.invariant.enable;
       turns = c.in_ok-add_image.ensures.turns;
+      registers = c.in_ok-add_image.ensures.registers;
       built = subst (λ (n : ℕ). AreBuiltWith c.add_image.new.b c.args.ir.now c.args.plan.now (g.F.BufferForm.form c.args.form.now) n c.add_image.new.images.nets.items c.add_image.new.images.taps.items c.add_image.new.images.tests) next c.in_ok-add_image.ensures.built;
     }
 

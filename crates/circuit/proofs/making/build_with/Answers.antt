@@ -1,11 +1,13 @@
-use Rattle.std.proofs.Common.{[], List, sym, subst}
+use Rattle.std.proofs.Common.{[], List, ap, sym, subst}
 use Rattle.wiring.specs.declared.netlist.Net.{Net}
 use Rattle.circuit.specs.Images.{AreBuilt}
 use Rattle.circuit.proofs.Adding.{built_none}
+use Rattle.circuit.proofs.Registered.{registers_none}
+use Rattle.wiring.specs.Netlist.{Netlist}
 use Rattle.circuit.proofs.making.build_with.Goals as goal
 
 pub add_images-requires-clause-turns : goal.add_images-requires-clause-turns
-add_images-requires-clause-turns g c = c.new-turns.ensures c.in_ok-b.b
+add_images-requires-clause-turns g c = c.new-turns.ensures.turns c.in_ok-b.b
 
 pub add_images-requires-clause-built : goal.add_images-requires-clause-built
 add_images-requires-clause-built g c =
@@ -18,3 +20,9 @@ add_images-requires-clause-built g c =
     (subst (λ (ts : List (List Net)). AreBuilt b c.args.ir.now c.args.plan.now form 0 [] ts) (sym c.new-taps.ensures.items) none)
     in
     record { built = built; apart = c.no_tests-tests.ensures.apart built.copies; tests_are = c.no_tests-tests.ensures.tests b }
+
+pub add_images-requires-clause-registers : goal.add_images-requires-clause-registers
+add_images-requires-clause-registers g c =
+    let form = g.F.BufferForm.form c.args.form.now in
+    let has = c.in_ok-b.ensures in
+    registers_none c.in_ok-b.b c.args.ir.now c.args.plan.now form.long c.new-turns.result c.no_tests-tests.result (ap (λ (b : Netlist). b.regs) has.ports) (ap (λ (b : Netlist). b.arrays) has.ports) c.new-turns.ensures.lines c.new-turns.ensures.blocks c.no_tests-tests.ensures.none

@@ -1,4 +1,5 @@
-use Rattle.std.proofs.Common.{◌∙◌, sym}
+use Rattle.std.proofs.Common.{ℕ, List, ap, ◌∙◌, sym}
+use Rattle.std.specs.Prelude.{sum}
 use Rattle.circuit.proofs.Placing.{tests_logic}
 use Rattle.circuit.proofs.Validity.{started_free, started_enabled}
 use Rattle.circuit.proofs.valid.valid_from.Goals as goal
@@ -13,3 +14,6 @@ returns-then-has_en-clause-valid c =
 
 pub returns-clause-valid : goal.returns-clause-valid
 returns-clause-valid c = started_free c.started.new.b c.args.latency c.in_ok-begun.begun (sym c.has_en.ensures ∙ c.if-has_en.false) c.in_ok-begun.ensures.starts c.in_ok-begun.ensures.control
+
+pub returns-then-has_en-clause-bits : goal.returns-then-has_en-clause-bits
+returns-then-has_en-clause-bits c = ap (λ (rs : List ℕ). sum rs) c.gate.ensures.logic.wires.regs ∙ c.in_ok-begun.ensures.bits

@@ -17,6 +17,7 @@ returns-clause-performs g c = let facts = c.perform.ensures in record {
   output = facts.output;
   files = facts.files;
   files_stay = facts.files_stay;
+  own = facts.own;
   report = facts.report;
   report_stays = facts.report_stays;
   notes = facts.notes;

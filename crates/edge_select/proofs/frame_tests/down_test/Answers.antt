@@ -4,6 +4,9 @@ use Rattle.edge_select.specs.declared.bands.Band.{Band}
 use Rattle.edge_select.specs.FrameTests.{IsRowTest}
 use Rattle.edge_select.proofs.Beside.{beside_none, beside_logic, beside_on}
 use Rattle.edge_select.proofs.Framed.{tests_more, row_frame_test}
+use Rattle.edge_select.proofs.Bits.{counts_logic}
+use Rattle.edge_select.proofs.Everywhere.{not_all}
+use Rattle.edge_select.proofs.Differing.{band_divides}
 use Rattle.net_build.specs.Control.{is_control}
 use Rattle.edge_select.proofs.Depth.{one_within, depth_over}
 use Rattle.edge_select.proofs.frame_tests.down_test.Goals as goal
@@ -28,3 +31,12 @@ returns-clause-test c =
 pub returns-clause-depth : goal.returns-clause-depth
 returns-clause-depth c =
     depth_over c.turned.new.b c.row_test.new.b 1 0 (c.in_ok-test.test ∷ []) c.in_ok-net.net c.turned.ensures.logic.includes (one_within c.row_test.new.b (is_control c.row_test.new.b.enable) 0 c.in_ok-test.test c.in_ok-test.ensures.test.register) c.in_ok-net.ensures.depth
+
+pub row_test-requires-clause-divides : goal.row_test-requires-clause-divides
+row_test-requires-clause-divides c = band_divides c.args.tests.now.size.height c.moved-band.result c.interval_of.result c.interval_of.ensures c.moved-band.ensures.band c.moved-band.ensures.part
+
+pub returns-clause-registers : goal.returns-clause-registers
+returns-clause-registers c = counts_logic c.turned.new.b c.row_test.new.b c.args.b.now c.row_test.new.tests c.args.tests.now c.turned.ensures.logic c.in_ok-test.ensures.registers
+
+pub returns-clause-none : goal.returns-clause-none
+returns-clause-none c all = absurd (not_all c.args.tests.now.size.height c.args.interval c.is_whole.result c.args.tests.now.size.sides.some_rows c.is_whole.ensures.1 c.if-is_whole.false all)

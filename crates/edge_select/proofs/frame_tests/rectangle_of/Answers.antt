@@ -7,6 +7,8 @@ use Rattle.net_build.proofs.Logic.{logic_on}
 use Rattle.edge_select.specs.FrameTests.{AreFrameTests, IsPartTest}
 use Rattle.edge_select.proofs.Beside.{beside_logic, beside_on}
 use Rattle.edge_select.proofs.Framed.{part_bit, part_test_more, tests_more, rectangle_frame_test}
+use Rattle.edge_select.proofs.Everywhere.{none_added}
+use Rattle.edge_select.proofs.Bits.{counts_on, counts_logic}
 use Rattle.edge_select.proofs.Depth.{part_depth_more, rectangle_depth}
 use Rattle.edge_select.proofs.frame_tests.rectangle_of.Goals as goal
 
@@ -39,3 +41,12 @@ pub returns-clause-depth : goal.returns-clause-depth
 returns-clause-depth c =
     rectangle_depth c.test_net.new.b c.both.new.b c.down_test.new.b c.in_ok-across.across c.in_ok-down.down c.in_ok-test.test c.in_ok-net.net c.both.ensures.logic.includes c.test_net.ensures.logic.includes
     (part_depth_more c.down_test.new.b c.across_test.new.b c.in_ok-across.across c.in_ok-down.ensures.adds.includes c.in_ok-across.ensures.depth) c.in_ok-down.ensures.depth c.in_ok-test.ensures.depth c.in_ok-net.ensures.depth
+
+pub returns-clause-registers : goal.returns-clause-registers
+returns-clause-registers c =
+    counts_logic c.test_net.new.b c.down_test.new.b c.args.b.now c.down_test.new.tests c.args.tests.now (logic_on _ _ _ c.both.ensures.logic c.test_net.ensures.logic)
+    (counts_on c.args.b.now c.across_test.new.b c.down_test.new.b c.args.tests.now c.across_test.new.tests c.down_test.new.tests c.in_ok-across.ensures.registers c.in_ok-down.ensures.registers)
+
+pub returns-clause-none : goal.returns-clause-none
+returns-clause-none c all =
+    none_added c.down_test.new.tests c.across_test.new.tests c.args.tests.now c.args.rectangle c.args.tests.now.size.sides.some_columns c.args.tests.now.size.sides.some_rows c.in_ok-across.ensures.tests.size_is c.in_ok-across.ensures.none c.in_ok-down.ensures.none all

@@ -3,6 +3,8 @@ use Rattle.dk_base.specs.FrameSizes.{size_of}
 use Rattle.net_build.proofs.Grown.{net_more, width_more}
 use Rattle.edge_select.proofs.Framed.{counters_more}
 use Rattle.edge_select.proofs.Made.{row_adds, row_is_test}
+use Rattle.net_build.proofs.Logic.{logic_on}
+use Rattle.edge_select.proofs.Bits.{one_more}
 use Rattle.edge_select.proofs.frame_tests.row_register.Goals as goal
 
 pub returns-clause-adds : goal.returns-clause-adds
@@ -22,3 +24,6 @@ register_of-requires-clause-load c = (
 
 pub next_row_test-requires-clause-counters : goal.next_row_test-requires-clause-counters
 next_row_test-requires-clause-counters c = counters_more c.starts.new.b c.args.b.now (size_of c.args.k.now.pixel.size) c.args.k.now c.starts.ensures.logic.includes c.requires.counters
+
+pub returns-clause-bits : goal.returns-clause-bits
+returns-clause-bits c = one_more c.register_of.new.b c.next_row_test.new.b c.args.b.now c.in_ok-net.ensures.adds.regs (logic_on _ _ _ c.starts.ensures.logic c.next_row_test.ensures.logic)

@@ -5,6 +5,8 @@ use Rattle.edge_select.specs.Passes.{PassesOn}
 use Rattle.edge_select.specs.FrameTests.{IsFrameTest}
 use Rattle.edge_select.proofs.Beside.{beside_logic}
 use Rattle.edge_select.proofs.Framed.{tests_more}
+use Rattle.edge_select.specs.Pixels.{AllPass}
+use Rattle.edge_select.proofs.Bits.{counts_none}
 use Rattle.edge_select.proofs.Depth.{constant_depth}
 use Rattle.edge_select.proofs.frame_tests.test_of.Goals as goal
 
@@ -20,3 +22,9 @@ returns-in_ok-net-in-None-clause-tests c = tests_more c.constant_test.new.b c.ar
 
 pub returns-in_ok-net-in-None-clause-depth : goal.returns-in_ok-net-in-None-clause-depth
 returns-in_ok-net-in-None-clause-depth c = constant_depth c.constant_test.new.b c.args.b.now 2 c.in_ok-net-in-None.net c.constant_test.ensures.logic.includes c.in_ok-net-in-None.ensures.depth
+
+pub returns-in_ok-net-in-None-clause-registers : goal.returns-in_ok-net-in-None-clause-registers
+returns-in_ok-net-in-None-clause-registers c = counts_none c.constant_test.new.b c.args.b.now c.args.tests.now c.constant_test.ensures.logic
+
+pub returns-in_ok-net-in-Some-clause-none : goal.returns-in_ok-net-in-Some-clause-none
+returns-in_ok-net-in-Some-clause-none c all = c.in_ok-net-in-Some.ensures.none (subst (λ (o : Option Rectangle). AllPass c.args.tests.now.size.width c.args.tests.now.size.height (PassesOn o)) c.in-Some.is all)

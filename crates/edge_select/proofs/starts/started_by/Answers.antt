@@ -1,7 +1,16 @@
-use Rattle.std.proofs.Common.{Some}
+use Rattle.std.proofs.Common.{◌≡◌, Bool, false, Some, arith}
+use Rattle.std.specs.Prelude.{IsTrue}
+use Rattle.dk_base.specs.FrameSizes.{size_of}
+use Rattle.net_build.specs.Registers.{register_bits, count_bits}
+use Rattle.net_build.proofs.Bits.{bits_same}
+use Rattle.edge_select.specs.FrameTests.{start_bits}
+use Rattle.edge_select.proofs.Bits.{at_a_pixel, at_no_pixel}
 use Rattle.edge_select.proofs.Beside.{beside_logic, beside_on}
 use Rattle.edge_select.proofs.Beginning.{started_unless, unless_control, beside_control}
 use Rattle.edge_select.proofs.starts.started_by.Goals as goal
+
+not_both : (b : Bool) → IsTrue b → b ≡ false → ⊥
+not_both b e f = cc
 
 pub returns-then-is_set_at_a_pixel-clause-adds : goal.returns-then-is_set_at_a_pixel-clause-adds
 returns-then-is_set_at_a_pixel-clause-adds c =
@@ -15,3 +24,15 @@ returns-then-is_set_at_a_pixel-clause-control c = unless_control c.unless_reset.
 
 pub returns-clause-adds : goal.returns-clause-adds
 returns-clause-adds c = beside_control c.started.new.b c.args.b.now (Some c.args.k.now) c.in_ok-net-2.ensures.adds
+
+pub returns-then-is_set_at_a_pixel-clause-bits : goal.returns-then-is_set_at_a_pixel-clause-bits
+returns-then-is_set_at_a_pixel-clause-bits c =
+    let is = c.is_set_at_a_pixel.ensures.yes c.if-is_set_at_a_pixel.true in
+    let one : start_bits (Some c.args.k.now) (size_of c.args.k.now.pixel.size) c.args.last ≡ 1 = at_a_pixel c.args.k.now (size_of c.args.k.now.pixel.size) c.args.last is.0 is.1 in
+    let same : register_bits c.unless_reset.new.b ≡ register_bits c.start_register.new.b = bits_same c.unless_reset.new.b c.start_register.new.b c.unless_reset.ensures.logic.wires.regs in
+    omega (arith, one, same, c.in_ok-register.ensures.bits)
+
+pub returns-clause-bits : goal.returns-clause-bits
+returns-clause-bits c =
+    let none : start_bits (Some c.args.k.now) (size_of c.args.k.now.pixel.size) c.args.last ≡ count_bits c.args.last = at_no_pixel c.args.k.now (size_of c.args.k.now.pixel.size) c.args.last (λ more most. not_both c.is_set_at_a_pixel.result (c.is_set_at_a_pixel.ensures.no more most) c.if-is_set_at_a_pixel.false) in
+    omega (arith, none, c.in_ok-net-2.ensures.bits)

@@ -1,4 +1,5 @@
-use Rattle.std.proofs.Common.{◌∙◌, ap}
+use Rattle.std.proofs.Common.{◌≡◌, ◌∙◌, [], ◌∷◌, false, refl, ap}
+use Rattle.wiring.specs.Netlist.{Netlist}
 use Rattle.std.specs.Prelude.{unwrap_or}
 use Rattle.std.specs.Option.{option_map}
 use Rattle.wiring.specs.declared.right.Atom.TheVariants as atom
@@ -7,6 +8,7 @@ use Rattle.net_build.specs.Includes.{Includes}
 use Rattle.net_build.proofs.Parts.{includes_on}
 use Rattle.net_build.proofs.Grown.{net_more, width_more}
 use Rattle.net_build.proofs.Operands.{net_operand, operand_more, word_operation}
+use Rattle.line_buffer.proofs.Counted.{counts_wires, counts_short}
 use Rattle.line_buffer.proofs.Shared.{turn_more, turns_more}
 use Rattle.line_buffer.proofs.Indexed.{line_once}
 use Rattle.line_buffer.proofs.LineMade.{line_is, first_is, line_adds, word_made}
@@ -55,3 +57,13 @@ returns-clause-line c =
       made = word_made c.args.b.now c.turning_index.new.b c.array.new.self c.op.new.self c.stored_net.new.b c.put.new.self c.args.width c.args.words c.in_ok-array.array c.in_ok-index.index c.args.value c.in_ok-word.word c.in_ok-stored.stored c.in_ok-index.ensures.adds c.in_ok-index.ensures.turn.counter c.in_ok-index.ensures.turn.control c.requires.words.0
           c.in_ok-array.ensures.ok c.in_ok-array.ensures.number c.in_ok-array.ensures.shape c.array.ensures.includes c.op.ensures.includes c.in_ok-word.ensures.ok c.op.ensures.wires c.in_ok-word.ensures.value c.stored_net.ensures.logic c.in_ok-stored.ensures.net c.put.ensures.includes c.put.ensures.update c.put.ensures.edge c.in_ok-word.ensures.made c.in_ok-stored.ensures.right;
     }
+
+pub returns-clause-counts : goal.returns-clause-counts
+returns-clause-counts c =
+    let same : c.put.new.self.regs ≡ c.turning_index.new.b.regs =
+    ap (λ (b : Netlist). b.regs) c.put.ensures.update
+    ∙ c.stored_net.ensures.logic.wires.regs
+    ∙ c.op.ensures.wires.regs
+    ∙ ap (λ (b : Netlist). b.regs) c.in_ok-array.ensures.ok in
+    counts_wires c.put.new.self c.turning_index.new.b c.args.b.now c.turning_index.new.turns c.args.turns.now (λ words. false) ((record { width = c.args.width; depth = c.args.words }) ∷ []) same
+    (counts_short c.turning_index.new.b c.args.b.now c.turning_index.new.turns c.args.turns.now (λ words. false) c.args.width c.args.words refl c.in_ok-index.ensures.lines c.in_ok-index.ensures.blocks c.in_ok-index.ensures.bits)

@@ -1,7 +1,8 @@
-use Rattle.std.proofs.Common.{[], ◌∙◌, sym}
+use Rattle.std.proofs.Common.{[], false, ◌∙◌, sym}
 use Rattle.line_buffer.proofs.Building.{still_adds, still_made, still_fills}
 use Rattle.line_buffer.proofs.Ringed.{still_is}
 use Rattle.line_buffer.proofs.Delayed.{delay_is}
+use Rattle.line_buffer.proofs.Counted.{counts_still}
 use Rattle.line_buffer.proofs.rings.ring.Goals as goal
 
 pub returns-then-depth-eq0-clause-adds : goal.returns-then-depth-eq0-clause-adds
@@ -23,3 +24,6 @@ returns-clause-delay c = delay_is c.ring_array.new.b [] _ c.args.image.ages.now 
 
 pub returns-then-depth-eq0-clause-fills : goal.returns-then-depth-eq0-clause-fills
 returns-then-depth-eq0-clause-fills c = still_fills c.args.b.now _ c.args.image.width c.args.image.ages.now c.args.image.net (sym c.greatest-depth.ensures.depth ∙ c.if-depth-eq0.true)
+
+pub returns-then-depth-eq0-clause-counts : goal.returns-then-depth-eq0-clause-counts
+returns-then-depth-eq0-clause-counts c = counts_still c.args.b.now c.args.turns.now (λ words. false) c.args.image.width c.args.image.ages.now (sym c.greatest-depth.ensures.depth ∙ c.if-depth-eq0.true)

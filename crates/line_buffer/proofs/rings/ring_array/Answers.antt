@@ -1,8 +1,10 @@
-use Rattle.std.proofs.Common.{◌∙◌, ◌-◌, ℕ, ap, sym, subst, arith}
+use Rattle.std.proofs.Common.{◌∙◌, ◌-◌, ℕ, [], ◌∷◌, false, ap, sym, subst, arith}
 use Rattle.dk_base.specs.Numbers.{bit_count, IsBitCount}
 use Rattle.line_buffer.specs.Rings.{IsRing, AreRingTaps}
 use Rattle.line_buffer.proofs.Shared.{turns_more}
 use Rattle.line_buffer.proofs.Building.{ring_built, ages_deep, built_adds, built_buffer, built_made, built_fills}
+use Rattle.line_buffer.specs.Places.{ring_shapes}
+use Rattle.line_buffer.proofs.Counted.{counts_as, counts_wires, ring_one}
 use Rattle.line_buffer.proofs.rings.ring_array.Goals as goal
 
 pub ring_taps-requires-clause-ring : goal.ring_taps-requires-clause-ring
@@ -43,3 +45,9 @@ returns-clause-fills c =
 
 pub returns-clause-turns : goal.returns-clause-turns
 returns-clause-turns c = turns_more c.ring_taps.new.b c.delay_line.new.b c.delay_line.new.turns c.ring_taps.ensures.taps.includes c.in_ok-line.ensures.turns
+
+pub returns-clause-counts : goal.returns-clause-counts
+returns-clause-counts c =
+    counts_as c.ring_taps.new.b c.args.b.now c.delay_line.new.turns c.args.turns.now (λ words. false) ((record { width = c.args.image.width; depth = c.args.words }) ∷ []) (ring_shapes c.args.image.width c.args.image.ages.now)
+    (ring_one c.args.image.width c.args.words c.args.image.ages.now c.requires.words.0 c.requires.depth)
+    (counts_wires c.ring_taps.new.b c.delay_line.new.b c.args.b.now c.delay_line.new.turns c.args.turns.now (λ words. false) ((record { width = c.args.image.width; depth = c.args.words }) ∷ []) c.ring_taps.ensures.taps.wires.regs c.in_ok-line.ensures.counts)

@@ -1,8 +1,11 @@
-use Rattle.std.proofs.Common.{ℕ, ◌<◌, sym, subst, arith}
+use Rattle.std.proofs.Common.{◌≡◌, ℕ, ◌+◌, ◌<◌, sym, subst, arith}
+use Rattle.dk_base.specs.Numbers.{bit_count}
 use Rattle.wiring.specs.declared.right.Atom.TheVariants as atom
 use Rattle.net_build.specs.Counters.{Starts}
 use Rattle.net_build.proofs.Operands.{net_operand, not_operation}
 use Rattle.net_build.proofs.Counting.{one_wide}
+use Rattle.net_build.specs.Registers.{register_bits, count_bits}
+use Rattle.net_build.proofs.Bits.{bits_same, bits_more, no_count, some_count}
 use Rattle.net_build.proofs.Starting.{register_adds, logic_adds, control_on, starts_now, starts_later, now_control, later_control}
 use Rattle.net_build.proofs.counters.started.Goals as goal
 
@@ -29,3 +32,16 @@ returns-then-last-eq0-clause-control c = now_control c.gate.new.b c.args.b.now c
 pub returns-clause-control : goal.returns-clause-control
 returns-clause-control c =
     later_control c.gate-2.new.b c.counter_up_to.new.b _ c.in_ok-count.count c.in_ok-net-2.net c.number.result c.bits_for.result c.args.last c.number.ensures c.gate-2.ensures.logic.includes c.in_ok-count.ensures.net c.in_ok-net-2.ensures.gate
+
+pub returns-then-last-eq0-clause-bits : goal.returns-then-last-eq0-clause-bits
+returns-then-last-eq0-clause-bits c =
+    let same : register_bits c.gate.new.b ≡ register_bits c.args.b.now = bits_same c.gate.new.b c.args.b.now c.gate.ensures.logic.wires.regs in
+    let none : count_bits c.args.last ≡ 0 = no_count c.args.last c.if-last-eq0.true in
+    omega (arith, same, none)
+
+pub returns-clause-bits : goal.returns-clause-bits
+returns-clause-bits c =
+    let same : register_bits c.gate-2.new.b ≡ register_bits c.counter_up_to.new.b = bits_same c.gate-2.new.b c.counter_up_to.new.b c.gate-2.ensures.logic.wires.regs in
+    let more : register_bits c.counter_up_to.new.b ≡ register_bits c.args.b.now + bit_count c.args.last = bits_more c.counter_up_to.new.b c.args.b.now (bit_count c.args.last) c.in_ok-count.ensures.adds.regs in
+    let some : count_bits c.args.last ≡ bit_count c.args.last = some_count c.args.last (omega (arith, c.if-last-eq0.false)) in
+    omega (arith, same, more, some)

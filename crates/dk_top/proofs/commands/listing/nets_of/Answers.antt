@@ -28,3 +28,8 @@ returns-clause-fault g c =
 pub returns-clause-left : goal.returns-clause-left
 returns-clause-left g c =
     no_text (g.D.Desk.outside c.args.desk.now).files c.args.name.now (g.D.Desk.outside c.read_compiled.new.desk).program ending.Memory (λ file slot. tt)
+
+pub returns-clause-cause : goal.returns-clause-cause
+returns-clause-cause g c =
+    let e = c.in-Ok.ensures.cause in
+    record { later = e.later; only = λ is. absurd (let f : ⊥ = cc in f); always = λ more. absurd (ok_apart _ _ (e.always more)) }

@@ -40,4 +40,4 @@ returns-in-Ok-clause-notes g c = λ source file age from input.
     let d = c.drive_of-drive.result in
     let is : d ≡ frame_drive size (latency c.args.compiled.now.plan) (length c.args.rounds.now) = c.drive_of-drive.ensures.is ∙ ap (λ (n : ℕ). frame_drive size n (length c.args.rounds.now)) c.latency.ensures in
     let noted = c.in-Ok.ensures.notes in
-    noted_of c.one_source_law.ensures.program c.drive_shows_law.ensures.picture c.drive_shows_law.ensures.rasters source file age c.args.compiled.now c.args.«module».now size c.args.rounds.now c.requires.again c.size-size.ensures d is from input _ _ noted.0 noted.1 noted.2
+    noted_of c.one_source_law.ensures.program c.drive_shows_law.ensures.picture c.drive_shows_law.ensures.rasters source file age c.args.compiled.now c.args.«module».now size c.args.rounds.now c.requires.again c.size-size.ensures d is from input c.notes_agree_law.ensures.agree _ _ noted.0 noted.1 noted.2

@@ -17,3 +17,8 @@ pub returns-in-Ok-read_again-clause-cause : goal.returns-in-Ok-read_again-clause
 returns-in-Ok-read_again-clause-cause g c =
     let e = c.in-Ok.ensures.cause in
     record { later = e.later; only = λ is. absurd (ok_apart _ _ is); always = λ more. absurd (ok_apart _ _ (e.always more)) }
+
+pub returns-in-Err-read_again-clause-cause : goal.returns-in-Err-read_again-clause-cause
+returns-in-Err-read_again-clause-cause g c =
+    let e = c.in-Ok.ensures.cause in
+    record { later = e.later; only = λ is. absurd (let f : ⊥ = cc in f); always = λ more. absurd (ok_apart _ _ (e.always more)) }

@@ -26,3 +26,13 @@ returns g c =
       performs = performs;
       left = ran_left c.one_at_age_law.ensures.apart c.one_at_age_law.ensures.accepted old.files c.args.program.now c.args.image.now c.args.age c.in-Ok.machine.compiled (g.D.Desk.outside c.run_rounds.new.desk).program c.run_rounds.result e.compiled performs.verdict;
     }
+
+pub run_streamed-requires-clause-one : goal.run_streamed-requires-clause-one
+run_streamed-requires-clause-one g c = λ p is. c.is_one_port.ensures.yes c.if-is_one_port.true p is
+
+pub run_rounds-requires-clause-several : goal.run_rounds-requires-clause-several
+run_rounds-requires-clause-several g c = λ p is one.
+    let on = c.is_one_port.ensures.no p is one in
+    let off = c.if-is_one_port.false in
+    let f : ⊥ = cc in
+    f

@@ -23,7 +23,7 @@ returns-in-Ok-write_file g c = record {
       let new = g.D.Desk.outside c.write_file.new.desk in
       let e = c.in-Ok.ensures in
       let w = c.in-Ok-write_file.ensures in
-      rounds_done c.one_source_law.ensures.program c.one_at_age_law.ensures.accepted source age c.args.compiled.now from c.requires.several c.args.image.now c.args.out.now c.in-Ok.output.items old mid new e.only e.name (e.good source age from) (e.output source age from) w.only w.name w.files w.files_stay
+      rounds_done c.one_source_law.ensures.program c.one_at_age_law.ensures.accepted source age c.args.compiled.now from c.requires.several c.args.image.now c.args.out.now c.in-Ok.output.items old mid new e.only e.name (e.good source age from) (e.output source age from) w.only w.name w.files w.files_stay w.own
       w.opened (subst (λ (bytes : List ℕ). IfSome new.file.bytes (λ written. written ≡ bytes)) c.deref.ensures.value w.whole) (e.notes source age from)
       (cause_as _ (ending.Done ≡ ending.ReadFault) old.input_failures mid.input_failures old.input_failures new.input_failures refl (sym (ap (λ (o : Outside). o.input_failures) w.only)) (λ is. absurd (ok_apart _ _ is)) (λ is. absurd (let f : ⊥ = cc in f)) e.cause)
       (cause_as (false ≡ true) (ending.Done ≡ ending.WriteFault) mid.output_failures new.output_failures old.output_failures new.output_failures (ap (λ (o : Outside). o.output_failures) e.only) refl (λ is. absurd (let f : ⊥ = cc in f)) (λ is. absurd (let f : ⊥ = cc in f)) w.cause);
@@ -37,7 +37,7 @@ returns g c = record {
       let new = g.D.Desk.outside c.write_file.new.desk in
       let e = c.in-Ok.ensures in
       let w = c.in-Err-write_file.ensures in
-      rounds_write c.one_source_law.ensures.program c.one_at_age_law.ensures.accepted source age c.args.compiled.now from c.requires.several c.args.image.now c.args.out.now c.in-Ok.output.items old mid new e.only e.name (e.good source age from) (e.output source age from) w.only w.name w.files w.files_stay
+      rounds_write c.one_source_law.ensures.program c.one_at_age_law.ensures.accepted source age c.args.compiled.now from c.requires.several c.args.image.now c.args.out.now c.in-Ok.output.items old mid new e.only e.name (e.good source age from) (e.output source age from) w.only w.name w.files w.files_stay w.own
       (λ there. subst (λ (bytes : List ℕ). IfSome new.file.bytes (λ written. IsPrefix written bytes)) c.deref.ensures.value (w.prefix there))
       (cause_as _ (ending.WriteFault ≡ ending.ReadFault) old.input_failures mid.input_failures old.input_failures new.input_failures refl (sym (ap (λ (o : Outside). o.input_failures) w.only)) (λ is. absurd (ok_apart _ _ is)) (λ is. absurd (let f : ⊥ = cc in f)) e.cause)
       (cause_as (true ≡ true) (ending.WriteFault ≡ ending.WriteFault) mid.output_failures new.output_failures old.output_failures new.output_failures (ap (λ (o : Outside). o.output_failures) e.only) refl (λ is. refl) (λ is. refl) w.cause);

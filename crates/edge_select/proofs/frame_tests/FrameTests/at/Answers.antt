@@ -1,10 +1,12 @@
-use Rattle.std.proofs.Common.{◌≡◌, ℤ, subst, rules, to_z, of_z, w32}
+use Rattle.std.proofs.Common.{◌≡◌, ℤ, sym, subst, rules, to_z, of_z, w32}
 use Rattle.std.proofs.lemmas.Int.{to_z-of_z}
 use Rattle.dk_base.specs.FrameSizes.{size_of}
 use Rattle.edge_select.specs.Steps.{LeadBy}
 use Rattle.edge_select.specs.Passes.{PassesOn}
 use Rattle.edge_select.specs.FrameTests.{IsFrameTest}
+use Rattle.edge_select.specs.Pixels.{AllPass}
 use Rattle.edge_select.proofs.Framed.{test_same}
+use Rattle.edge_select.proofs.Everywhere.{all_same}
 use Rattle.edge_select.proofs.frame_tests.FrameTests.at.Goals as goal
 
 pub returns-clause-test : goal.returns-clause-test
@@ -17,3 +19,14 @@ returns-clause-test c =
     test_same c.test_of.new.b size c.args.delay c.args.self.now.size.sides.some_columns c.args.self.now.size.sides.some_rows (PassesOn c.passing_pixels-rectangle.result) (LeadBy size steps (to_z w32 (of_z w32 c.args.dx)) (to_z w32 (of_z w32 c.args.dy))) c.in_ok-net.net c.in_ok-net.ensures.test c.passing_pixels-rectangle.ensures.passes in
     subst (λ (d : ℤ). IsFrameTest c.test_of.new.b size c.args.delay (LeadBy size steps d c.args.dy) c.in_ok-net.net) dx
     (subst (λ (e : ℤ). IsFrameTest c.test_of.new.b size c.args.delay (LeadBy size steps (to_z w32 (of_z w32 c.args.dx)) e) c.in_ok-net.net) dy all)
+
+pub returns-clause-none : goal.returns-clause-none
+returns-clause-none c all =
+    let size = size_of c.args.self.now.size in
+    let steps = c.args.steps.now in
+    let dx : to_z w32 (of_z w32 c.args.dx) ≡ c.args.dx = to_z-of_z w32 c.args.dx (search rules) in
+    let dy : to_z w32 (of_z w32 c.args.dy) ≡ c.args.dy = to_z-of_z w32 c.args.dy (search rules) in
+    let there : AllPass c.args.self.now.size.width c.args.self.now.size.height (LeadBy size steps (to_z w32 (of_z w32 c.args.dx)) (to_z w32 (of_z w32 c.args.dy))) =
+    subst (λ (d : ℤ). AllPass c.args.self.now.size.width c.args.self.now.size.height (LeadBy size steps d (to_z w32 (of_z w32 c.args.dy)))) (sym dx)
+    (subst (λ (e : ℤ). AllPass c.args.self.now.size.width c.args.self.now.size.height (LeadBy size steps c.args.dx e)) (sym dy) all) in
+    c.in_ok-net.ensures.none (all_same c.args.self.now.size.width c.args.self.now.size.height (PassesOn c.passing_pixels-rectangle.result) (LeadBy size steps (to_z w32 (of_z w32 c.args.dx)) (to_z w32 (of_z w32 c.args.dy))) c.passing_pixels-rectangle.ensures.passes there)
