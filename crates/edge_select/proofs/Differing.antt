@@ -2,7 +2,7 @@
 use Rattle.std.proofs.Common.{◌≡◌, ℕ, ◌+◌, ◌<◌, Bool, false, List, [], ◌∷◌, ◌++◌, length, refl, sym, ap, subst, ◌∙◌, inl, inr, arith}
 use Rattle.std.specs.Prelude.{if◌then◌else◌, not}
 use Rattle.std.proofs.lemmas.List.{length_push}
-use Rattle.std.proofs.lemmas.Bool.{cases_lt, false_from_ne_true}
+use Rattle.std.proofs.lemmas.Bool.{false_from_ne_true}
 use Rattle.wiring.proofs.Search.{at_push}
 use Rattle.edge_select.specs.declared.bands.Band.{Band}
 use Rattle.edge_select.specs.declared.frame_tests.Test.{Test}
@@ -30,7 +30,7 @@ push_differs tests new differ none j k t u at_t at_u start band =
     ]
 
 -- an interval that is not the whole side
-module _ (side : ℕ) (band : Band) (plain : band.outside ≡ false) (is : IsBand side band) (part : band.last + 1 < side + band.first) where
+module _ (side : ℕ) (band : Band) (plain : band.outside ≡ false) (is : IsBand side band) (part : band.last + 1 < side) where
   plainly : (x : ℕ) → in_band side band x ≡ in_interval side band.first band.last x
   plainly x = ap (λ (t : Bool). if t then not (in_interval side band.first band.last x) else in_interval side band.first band.last x) plain
 
@@ -40,14 +40,12 @@ module _ (side : ℕ) (band : Band) (plain : band.outside ≡ false) (is : IsBan
   pub divides : Divides side band
   divides = record {
     inside = (band.first, omega (arith, is.some, is.last), plainly band.first ∙ in_the_interval side band.first band.last band.first (omega (arith, is.some, is.last)) (record { low = omega arith; high = is.some }));
-    outside =
-        elim (cases_lt (band.last + 1) side) as (λ _. (x : ℕ) × (x < side) × (in_band side band x ≡ false)) [
-          | inl lt ↦ (band.last + 1, lt, missed (band.last + 1) lt (λ h. omega (arith, h.high)))
-          | inr ge ↦ (0, omega (arith, is.last), missed 0 (omega (arith, is.last)) (λ h. omega (arith, h.low, part, ge, is.last)))
-        ];
+    outside = (band.last + 1, part, missed (band.last + 1) part (λ h. omega (arith, h.high)));
+    plain = plain;
+    last = part;
   }
 
 -- the band of an interval that is not the whole side
-pub band_divides : (side : ℕ) (band inner : Band) → inner ≡ record { first = band.first; last = band.last; outside = false } → IsBand side band → band.last + 1 < side + band.first → Divides side inner
+pub band_divides : (side : ℕ) (band inner : Band) → inner ≡ record { first = band.first; last = band.last; outside = false } → IsBand side band → band.last + 1 < side → Divides side inner
 band_divides side band inner e is part =
     subst (Divides side) (sym e) (divides side (record { first = band.first; last = band.last; outside = false }) refl (record { some = is.some; last = is.last }) part)

@@ -31,7 +31,7 @@ use Rattle.edge_select.specs.Bands.{in_interval, in_band}
 use Rattle.edge_select.specs.Logic.{IsBit, IsBoth, IsTestNet}
 use Rattle.edge_select.specs.Pixels.{HasPixel, Follows, IsBitOf}
 use Rattle.edge_select.specs.Counters.{TakesNext}
-use Rattle.edge_select.specs.FrameTests.{AreCounters, IsColumnTest, IsRowTest, AreFrameTests, IsFrameTest, IsPartTest, Divides, HasNone, TestsDiffer}
+use Rattle.edge_select.specs.FrameTests.{AreCounters, IsColumnTest, IsRowTest, AreFrameTests, IsFrameTest, IsPartTest, DividesColumns, DividesRows, HasNone, TestsDiffer}
 use Rattle.net_build.proofs.Depth.{within_made}
 use Rattle.edge_select.proofs.Differing.{none_differ, push_differs, push_some}
 use Rattle.edge_select.proofs.Lasting.{follows_more}
@@ -127,8 +127,8 @@ no_tests b size tests es ek ec er = record {
   counters = subst (λ (o : Option Counters). IfSome o (AreCounters b size)) (sym ek) tt;
   columns = subst (All (IsColumnTest b size)) (sym ec) (All-nil (IsColumnTest b size));
   rows = subst (All (IsRowTest b size)) (sym er) (All-nil (IsRowTest b size));
-  columns_divide = subst (All (λ (t : Test). Divides size.width t.band)) (sym ec) (All-nil (λ (t : Test). Divides size.width t.band));
-  rows_divide = subst (All (λ (t : Test). Divides size.height t.band)) (sym er) (All-nil (λ (t : Test). Divides size.height t.band));
+  columns_divide = subst (All (DividesColumns size)) (sym ec) (All-nil (DividesColumns size));
+  rows_divide = subst (All (DividesRows size)) (sym er) (All-nil (DividesRows size));
   columns_differ = subst TestsDiffer (sym ec) none_differ;
   rows_differ = subst TestsDiffer (sym er) none_differ;
   needed = λ no_columns no_rows. ek;
@@ -145,28 +145,28 @@ pub own_size : (b : Netlist) (size : Size) (k : Counters) → AreCounters b size
 own_size b size k is = subst (λ (z : Size). AreCounters b z k) (sym is.size_is) is
 
 pub with_column : (b : Netlist) (size : Size) (tests old : FrameTests) (k : Counters) (t : Test) → tests.size ≡ old.size → tests.counters ≡ Some k → tests.columns.items ≡ old.columns.items ++ t ∷ [] → tests.rows.items ≡ old.rows.items → AreFrameTests b size old → AreCounters b size k → IsColumnTest b size t →
-    Divides size.width t.band → HasNone old.columns.items t.start t.band → AreFrameTests b size tests
+    DividesColumns size t → HasNone old.columns.items t.start t.band → AreFrameTests b size tests
 with_column b size tests old k t es ek ec er is counters new divides none = record {
   size_is = ap (λ z. size_of z) es ∙ is.size_is;
   counters = subst (λ (o : Option Counters). IfSome o (AreCounters b size)) (sym ek) counters;
   columns = subst (All (IsColumnTest b size)) (sym ec) (All-push (IsColumnTest b size) old.columns.items t is.columns new);
   rows = subst (All (IsRowTest b size)) (sym er) is.rows;
-  columns_divide = subst (All (λ (u : Test). Divides size.width u.band)) (sym ec) (All-push (λ (u : Test). Divides size.width u.band) old.columns.items t is.columns_divide divides);
-  rows_divide = subst (All (λ (u : Test). Divides size.height u.band)) (sym er) is.rows_divide;
+  columns_divide = subst (All (DividesColumns size)) (sym ec) (All-push (DividesColumns size) old.columns.items t is.columns_divide divides);
+  rows_divide = subst (All (DividesRows size)) (sym er) is.rows_divide;
   columns_differ = subst TestsDiffer (sym ec) (push_differs old.columns.items t is.columns_differ none);
   rows_differ = subst TestsDiffer (sym er) is.rows_differ;
   needed = λ no_columns no_rows. absurd (push_some old.columns.items t (sym ec ∙ no_columns));
 }
 
 pub with_row : (b : Netlist) (size : Size) (tests old : FrameTests) (k : Counters) (t : Test) → tests.size ≡ old.size → tests.counters ≡ Some k → tests.columns.items ≡ old.columns.items → tests.rows.items ≡ old.rows.items ++ t ∷ [] → AreFrameTests b size old → AreCounters b size k → IsRowTest b size t →
-    Divides size.height t.band → HasNone old.rows.items t.start t.band → AreFrameTests b size tests
+    DividesRows size t → HasNone old.rows.items t.start t.band → AreFrameTests b size tests
 with_row b size tests old k t es ek ec er is counters new divides none = record {
   size_is = ap (λ z. size_of z) es ∙ is.size_is;
   counters = subst (λ (o : Option Counters). IfSome o (AreCounters b size)) (sym ek) counters;
   columns = subst (All (IsColumnTest b size)) (sym ec) is.columns;
   rows = subst (All (IsRowTest b size)) (sym er) (All-push (IsRowTest b size) old.rows.items t is.rows new);
-  columns_divide = subst (All (λ (u : Test). Divides size.width u.band)) (sym ec) is.columns_divide;
-  rows_divide = subst (All (λ (u : Test). Divides size.height u.band)) (sym er) (All-push (λ (u : Test). Divides size.height u.band) old.rows.items t is.rows_divide divides);
+  columns_divide = subst (All (DividesColumns size)) (sym ec) is.columns_divide;
+  rows_divide = subst (All (DividesRows size)) (sym er) (All-push (DividesRows size) old.rows.items t is.rows_divide divides);
   columns_differ = subst TestsDiffer (sym ec) is.columns_differ;
   rows_differ = subst TestsDiffer (sym er) (push_differs old.rows.items t is.rows_differ none);
   needed = λ no_columns no_rows. absurd (push_some old.rows.items t (sym er ∙ no_rows));

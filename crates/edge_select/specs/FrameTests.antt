@@ -105,10 +105,22 @@ pub record IsStartTest (b : Netlist) (last : ℕ) (register : Net) : Type 0 wher
   pub value : InEachRun b (λ m before c s. IsTrue (was_reset before) → net_value s register ≡ bit (nat_le last (length (counted m before))))
   pub made : IsControl b (OfNet register)
 
--- some coordinate of the side is in the band, and some is not
+-- Some coordinate of the side is in the band, and some is not. The band is written as its interval, without the side's last coordinate: no two that are written differently have the same coordinates, or the opposite ones.
 pub record Divides (side : ℕ) (b : Band) : Type 0 where
   pub inside : (x : ℕ) × (x < side) × (in_band side b x ≡ true)
   pub outside : (x : ℕ) × (x < side) × (in_band side b x ≡ false)
+  pub plain : b.outside ≡ false
+  pub last : b.last + 1 < side
+
+-- the test of columns starts with the frame, and divides the columns
+pub record DividesColumns (size : Size) (t : Test) : Type 0 where
+  pub start : t.start ≡ 0
+  pub band : Divides size.width t.band
+
+-- the test of rows starts in a column of the frame, and divides the rows
+pub record DividesRows (size : Size) (t : Test) : Type 0 where
+  pub start : t.start < size.width
+  pub band : Divides size.height t.band
 
 -- no two of these tests have the same start and the same band
 abbrev pub TestsDiffer : List Test → Type 0
@@ -124,8 +136,8 @@ pub record AreFrameTests (b : Netlist) (size : Size) (tests : FrameTests) : Type
   pub counters : IfSome tests.counters (AreCounters b size)
   pub columns : All (IsColumnTest b size) tests.columns.items
   pub rows : All (IsRowTest b size) tests.rows.items
-  pub columns_divide : All (λ t. Divides size.width t.band) tests.columns.items
-  pub rows_divide : All (λ t. Divides size.height t.band) tests.rows.items
+  pub columns_divide : All (DividesColumns size) tests.columns.items
+  pub rows_divide : All (DividesRows size) tests.rows.items
   pub columns_differ : TestsDiffer tests.columns.items
   pub rows_differ : TestsDiffer tests.rows.items
   pub needed : tests.columns.items ≡ [] → tests.rows.items ≡ [] → tests.counters ≡ None

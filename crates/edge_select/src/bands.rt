@@ -45,7 +45,7 @@ pub fn moved(interval: Interval, shift: u32, side: u32) -> Band
     requires shift { shift < side }
     requires most { side ≤ MAX_SIDE }
     ensures band { IsBand side result }
-    ensures part { result.last + 1 < side + result.first }
+    ensures last { result.last + 1 < side }
     ensures moved { (x : ℕ) → x < side → IsBitOf (IsIn interval x) (bit (in_band side result ((x + shift) % side))) }
 {
     let first = interval.first + shift;

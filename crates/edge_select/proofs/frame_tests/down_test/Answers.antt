@@ -33,7 +33,7 @@ returns-clause-depth c =
     depth_over c.turned.new.b c.row_test.new.b 1 0 (c.in_ok-test.test ∷ []) c.in_ok-net.net c.turned.ensures.logic.includes (one_within c.row_test.new.b (is_control c.row_test.new.b.enable) 0 c.in_ok-test.test c.in_ok-test.ensures.test.register) c.in_ok-net.ensures.depth
 
 pub row_test-requires-clause-divides : goal.row_test-requires-clause-divides
-row_test-requires-clause-divides c = band_divides c.args.tests.now.size.height c.moved-band.result c.interval_of.result c.interval_of.ensures c.moved-band.ensures.band c.moved-band.ensures.part
+row_test-requires-clause-divides c = band_divides c.args.tests.now.size.height c.moved-band.result c.interval_of.result c.interval_of.ensures c.moved-band.ensures.band c.moved-band.ensures.last
 
 pub returns-clause-registers : goal.returns-clause-registers
 returns-clause-registers c = counts_logic c.turned.new.b c.row_test.new.b c.args.b.now c.row_test.new.tests c.args.tests.now c.turned.ensures.logic c.in_ok-test.ensures.registers

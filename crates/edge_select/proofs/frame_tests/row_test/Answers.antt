@@ -38,5 +38,5 @@ returns-clause-tests c =
     with_row c.row_register.new.b size (record { size = c.args.tests.now.size; counters = Some c.in_ok-counters.counters; columns = c.args.tests.now.columns; rows = c.push.new.self }) c.args.tests.now c.in_ok-counters.counters t refl refl refl c.in_ok-push.ensures.items
     (tests_more c.row_register.new.b c.args.b.now size c.args.tests.now (includes_on _ _ _ c.in_ok-counters.ensures.adds.includes c.in_ok-net.ensures.adds.includes) c.requires.tests)
     (counters_more c.row_register.new.b c.counters_of.new.b size c.in_ok-counters.counters c.in_ok-net.ensures.adds.includes c.in_ok-counters.ensures.counters)
-    (subst (λ (z : Size). IsRowTest c.row_register.new.b z (record { start = c.args.start; band = c.args.band; net = c.in_ok-net.net })) c.in_ok-counters.ensures.counters.size_is c.in_ok-net.ensures.test) c.requires.divides
+    (subst (λ (z : Size). IsRowTest c.row_register.new.b z (record { start = c.args.start; band = c.args.band; net = c.in_ok-net.net })) c.in_ok-counters.ensures.counters.size_is c.in_ok-net.ensures.test) (record { start = c.requires.start; band = c.requires.divides })
     (subst (λ (ts : List Test). HasNone ts c.args.start c.args.band) c.deref.ensures.value c.in_default.ensures.none)
