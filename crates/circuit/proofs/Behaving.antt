@@ -84,6 +84,7 @@ use Rattle.circuit.proofs.Computed.{one_tap}
 use Rattle.circuit.proofs.Netted.{place_of, shows_only, output_right, some_array, put_made, first_stores, later_stores, long_copied}
 use Rattle.wiring.proofs.Search.{at_push}
 use Rattle.circuit.proofs.Leaving.{flat_at}
+use Rattle.circuit.proofs.Registered.{none_asked}
 
 -- the buffer bits are those of the arrays and of the copies that a din reaches, where no other register is reached
 with_copies : (m : Netlist) (n : ℕ) (copies : List ℕ) → array_bits m.arrays ≡ n → FedOnly m copies → (k : ℕ) → IsBufferBits m k → AddsCopies m n copies k
@@ -512,7 +513,8 @@ module _ (m b : Netlist) (p : Program) (plan : Plan) (form : Form) (nets : List 
   registers turns are = record {
     tests = tests;
     tests_are = tests_more m b (size_in plan) tests (Includes-trans m last b grows closed.adds.includes) has.tests_are;
-    none = are.none;
+    asked = are.asked;
+    none = none_asked b p plan tests is has.tests_are are.asked;
     bits =
         let here : m.arrays ≡ b.arrays = ap (λ (n : Netlist). n.arrays) closed.driven ∙ closed.adds.arrays in
         let regs : register_bits m ≡ register_bits last = ap register_bits closed.driven in

@@ -1,31 +1,34 @@
 -- The bits of registers, as tests, buffers and outputs are added.
 use Rattle.std.proofs.Common.{◌≡◌, ◌⊎◌, ℕ, zero, suc, ◌+◌, ◌<◌, ◌≤◌, ◌==◌, Bool, true, false, List, [], ◌∷◌, ◌++◌, length, map, take, length-take-le, refl, sym, ap, subst, ◌∙◌, inl, inr, arith}
-use Rattle.std.specs.Prelude.{Contains, ◌||◌, if◌then◌else◌, fold, filter, not, sum, sum_by, slice_index, slice_index_or}
+use Rattle.std.specs.Prelude.{ℤ, Option, Contains, ◌||◌, if◌then◌else◌, fold, filter, not, sum, sum_by, slice_index, slice_index_or}
 use Rattle.std.specs.List.{list_any}
 use Rattle.std.proofs.lemmas.Bool.{eqb-true, eq-eqb}
 use Rattle.std.proofs.lemmas.List.{map-append, length-map, get_or-map, get_or-take, get_or_default, take_more}
 use Rattle.std.proofs.lemmas.List.Sums.{fold-append, sum_by-append, sum_by_push}
-use Rattle.std.proofs.lemmas.List.Elements.{filter-append}
+use Rattle.std.proofs.lemmas.List.Elements.{filter-append, Contains-append_left, Contains-append_right}
+use Rattle.dk_base.specs.Frames.{Size}
 use Rattle.dk_base.specs.FrameSizes.{size_of}
 use Rattle.wiring.specs.declared.netlist.Shape.{Shape}
 use Rattle.wiring.specs.Netlist.{Netlist}
-use Rattle.wiring.proofs.Lists.{All-left, All-right}
 use Rattle.net_build.specs.Logic.{AddsLogic}
 use Rattle.net_build.specs.Registers.{register_bits, with_new, distinct}
 use Rattle.pointwise_ir.specs.Programs.{Program}
 use Rattle.edge_select.specs.declared.step.Step.{Step}
+use Rattle.edge_select.specs.declared.frame_tests.Test.{Test}
 use Rattle.edge_select.specs.declared.frame_tests.FrameTests.{FrameTests}
-use Rattle.edge_select.specs.FrameTests.{CountsTests, test_bits, start_bits}
+use Rattle.edge_select.specs.FrameTests.{AreFrameTests, CountsTests, test_bits, start_bits}
+use Rattle.edge_select.specs.Asked.{InColumn, InRow, SeparatesColumns, SeparatesRows, AddsOnly, AddsFor}
+use Rattle.edge_select.proofs.Asked.{only_same, only_by, only_on, no_columns, no_rows, no_bits}
 use Rattle.line_buffer.specs.declared.sharing.Turns.{Turns}
 use Rattle.line_buffer.specs.SharedCounters.{CountsTurns, line_words, block_words, index_bits, long_words, short_words, copy_bits}
-use Rattle.buffer_plan.specs.Plans.{Plan, delay_of, latency_of}
+use Rattle.buffer_plan.specs.Plans.{Plan, IsPlan, delay_of, latency_of}
 use Rattle.circuit.specs.Leaves.{LeafRead}
 use Rattle.circuit.proofs.Choosing.{push_in, old_in, last_in}
 use Rattle.circuit.proofs.Sourced.{any_of}
 use Rattle.dk_base.specs.declared.stencils.LiveRead.{LiveRead}
 use Rattle.circuit.specs.Taps.{size_in}
 use Rattle.circuit.specs.Reads.{reads_in}
-use Rattle.circuit.specs.Registers.{IsFixedRead, IsFixedLeaf, IsFixedPart, AreFixed, AddsNeeded, IsFixedImage, NeedsNoTest, CountsRegisters, latencies, latency_bits, AddsLatency}
+use Rattle.circuit.specs.Registers.{Condition, LeadsBy, Meets, AsksRead, AsksLeaf, AsksParts, Asks, IsAsked, NeedsNoTest, ColumnsFor, RowsFor, AreAsked, AddsNeeded, CountsRegisters, latencies, latency_bits, AddsLatency}
 
 -- a number is in a list where a test of equality says so
 any_has : (xs : List ℕ) (a : ℕ) → list_any (λ (x : ℕ). x == a) xs ≡ true → Contains xs a
@@ -42,36 +45,86 @@ any_has (x ∷ xs) a e = by (x == a) refl e (λ h. any_has xs a h)
 has_any : (xs : List ℕ) (a : ℕ) → Contains xs a → list_any (λ (x : ℕ). x == a) xs ≡ true
 has_any xs a has = any_of (λ (x : ℕ). x == a) xs a has (eq-eqb a a refl)
 
+-- a test for a condition that is asked, and for one that is asked for more
+columns_by : (plan : Plan) (P Q : Condition → Type 0) (t : Test) → ((c : Condition) → P c → Q c) → ColumnsFor plan P t → ColumnsFor plan Q t
+columns_by plan P Q t more is = (is.0, more is.0 is.1, is.2)
+
+rows_by : (plan : Plan) (P Q : Condition → Type 0) (t : Test) → ((c : Condition) → P c → Q c) → RowsFor plan P t → RowsFor plan Q t
+rows_by plan P Q t more is = (is.0, more is.0 is.1, is.2)
+
 -- nothing, wires, and one after another
-pub needed_none : (b : Netlist) (t : FrameTests) (P : Type 0) → AddsNeeded b b t t P
-needed_none b t P = record { counts = refl; none = λ fixed. refl }
+pub needed_none : (b : Netlist) (t : FrameTests) (plan : Plan) (P : Condition → Type 0) → AddsNeeded b b t t plan P
+needed_none b t plan P = record { counts = refl; only = only_same t (ColumnsFor plan P) (RowsFor plan P) }
 
-pub needed_logic : (new old : Netlist) (t : FrameTests) (P : Type 0) → AddsLogic new old → AddsNeeded new old t t P
-needed_logic new old t P is = record { counts = ap (λ (rs : List ℕ). sum rs + test_bits t) is.wires.regs; none = λ fixed. refl }
+pub needed_logic : (new old : Netlist) (t : FrameTests) (plan : Plan) (P : Condition → Type 0) → AddsLogic new old → AddsNeeded new old t t plan P
+needed_logic new old t plan P is = record { counts = ap (λ (rs : List ℕ). sum rs + test_bits t) is.wires.regs; only = only_same t (ColumnsFor plan P) (RowsFor plan P) }
 
-pub needed_on : (c b a : Netlist) (k j i : FrameTests) (P Q R : Type 0) → AddsNeeded b a j i P → AddsNeeded c b k j Q → (R → P) → (R → Q) → AddsNeeded c a k i R
-needed_on c b a k j i P Q R one other first second = record {
-  counts = (let e = one.counts in let f = other.counts in omega (arith, e, f));
-  none = λ fixed. other.none (second fixed) ∙ one.none (first fixed);
+pub needed_by : (b a : Netlist) (j i : FrameTests) (plan : Plan) (P Q : Condition → Type 0) → ((c : Condition) → P c → Q c) → AddsNeeded b a j i plan P → AddsNeeded b a j i plan Q
+needed_by b a j i plan P Q more is = record {
+  counts = is.counts;
+  only = only_by j i (ColumnsFor plan P) (RowsFor plan P) (ColumnsFor plan Q) (RowsFor plan Q) (λ t. columns_by plan P Q t more) (λ t. rows_by plan P Q t more) is.only;
 }
 
-pub needed_by : (b a : Netlist) (j i : FrameTests) (P Q : Type 0) → (Q → P) → AddsNeeded b a j i P → AddsNeeded b a j i Q
-needed_by b a j i P Q from is = record { counts = is.counts; none = λ fixed. is.none (from fixed) }
+pub needed_on : (c b a : Netlist) (k j i : FrameTests) (plan : Plan) (P Q R : Condition → Type 0) → AddsNeeded b a j i plan P → AddsNeeded c b k j plan Q → ((d : Condition) → P d → R d) → ((d : Condition) → Q d → R d) → AddsNeeded c a k i plan R
+needed_on c b a k j i plan P Q R one other first second =
+    let before = needed_by b a j i plan P R first one in
+    let after = needed_by c b k j plan Q R second other in
+    record {
+      counts = (let e = before.counts in let f = after.counts in omega (arith, e, f));
+      only = only_on k j i (ColumnsFor plan R) (RowsFor plan R) before.only after.only;
+    }
 
--- frame tests that are asked for where not all pixels have one result
-pub needed_tests : (b a : Netlist) (j i : FrameTests) (P : Type 0) → CountsTests b a j i → (P → ⊥) → AddsNeeded b a j i P
-needed_tests b a j i P counts not_fixed = record { counts = counts; none = λ fixed. absurd (not_fixed fixed) }
+-- and wires after it
+pub needed_then : (c b a : Netlist) (j i : FrameTests) (plan : Plan) (P : Condition → Type 0) → AddsNeeded b a j i plan P → AddsLogic c b → AddsNeeded c a j i plan P
+needed_then c b a j i plan P is logic = needed_on c b a j j i plan P P P is (needed_logic c b j plan P logic) (λ d h. h) (λ d h. h)
 
--- a live read of a leaf that is fixed
-pub fixed_at : (plan : Plan) (f : ℕ) (leaf : LeafRead) (items : List LiveRead) (i : ℕ) (d : LiveRead) → items ≡ reads_in plan f → i < length items → IsFixedLeaf plan f leaf → IsFixedRead (size_in plan) leaf (slice_index_or items i d)
-fixed_at plan f leaf items i d e lt fixed = fixed (slice_index_or items i d) (subst (λ (rs : List LiveRead). Contains rs (slice_index_or items i d)) e (i, lt, get_or_default items i (slice_index_or items i d) d lt))
+-- the frame tests of one condition
+pub needed_tests : (b a : Netlist) (j i : FrameTests) (plan : Plan) (f delay : ℕ) (steps : List Step) (offset : Option (ℤ × ℤ)) → size_of i.size ≡ size_in plan → delay ≡ delay_of plan f → CountsTests b a j i → AddsFor (size_of i.size) delay (LeadsBy (size_of i.size) steps offset) j i →
+    AddsNeeded b a j i plan (λ c. c ≡ record { image = f; steps = steps; offset = offset })
+needed_tests b a j i plan f delay steps offset same late counts is =
+    let c : Condition = record { image = f; steps = steps; offset = offset } in
+    let P : Condition → Type 0 = λ d. d ≡ c in
+    let here : AddsFor (size_in plan) (delay_of plan f) (LeadsBy (size_in plan) steps offset) j i =
+    subst (λ (d : ℕ). AddsFor (size_in plan) d (LeadsBy (size_in plan) steps offset) j i) late (subst (λ (z : Size). AddsFor z delay (LeadsBy z steps offset) j i) same is) in
+    record {
+      counts = counts;
+      only = only_by j i (SeparatesColumns (size_in plan) (delay_of plan f) (InColumn (size_in plan) (Meets (size_in plan) c))) (SeparatesRows (size_in plan) (delay_of plan f) (InRow (size_in plan) (Meets (size_in plan) c))) (ColumnsFor plan P) (RowsFor plan P) (λ t h. (c, refl, h)) (λ t h. (c, refl, h)) here;
+    }
 
--- the parts of leaves that are fixed
-pub fixed_left : (plan : Plan) (f : ℕ) (ls ms : List LeafRead) (ps qs : List (List Step)) → AreFixed plan f (ls ++ ms) (ps ++ qs) → AreFixed plan f ls ps
-fixed_left plan f ls ms ps qs (reads, parts) = (All-left (IsFixedLeaf plan f) ls ms reads, All-left (IsFixedPart plan) ps qs parts)
+-- what a live read asks for, its leaf does
+pub asks_at : (plan : Plan) (f : ℕ) (leaf : LeafRead) (items : List LiveRead) (i : ℕ) (d : LiveRead) → items ≡ reads_in plan f → i < length items → (c : Condition) → AsksRead f leaf (slice_index_or items i d) c → AsksLeaf plan f leaf c
+asks_at plan f leaf items i d e lt c is = (slice_index_or items i d, subst (λ (rs : List LiveRead). Contains rs (slice_index_or items i d)) e (i, lt, get_or_default items i (slice_index_or items i d) d lt), is)
 
-pub fixed_right : (plan : Plan) (f : ℕ) (ls ms : List LeafRead) (ps qs : List (List Step)) → AreFixed plan f (ls ++ ms) (ps ++ qs) → AreFixed plan f ms qs
-fixed_right plan f ls ms ps qs (reads, parts) = (All-right (IsFixedLeaf plan f) ls ms reads, All-right (IsFixedPart plan) ps qs parts)
+-- what one leaf or part asks for, and what some of them do
+pub asks_leaf : (plan : Plan) (f : ℕ) (leaf : LeafRead) (c : Condition) → AsksLeaf plan f leaf c → Asks plan f (leaf ∷ []) [] c
+asks_leaf plan f leaf c is = inl (leaf, (0, omega arith, refl), is)
+
+pub asks_parts : (plan : Plan) (f : ℕ) (ls : List LeafRead) (ps qs : List (List Step)) (c : Condition) → AsksParts f ps c → Asks plan f ls (ps ++ qs) c
+asks_parts plan f ls ps qs c (steps, has, is) = inr (steps, Contains-append_left ps qs steps has, is)
+
+pub asks_left : (plan : Plan) (f : ℕ) (ls ms : List LeafRead) (ps qs : List (List Step)) (c : Condition) → Asks plan f ls ps c → Asks plan f (ls ++ ms) (ps ++ qs) c
+asks_left plan f ls ms ps qs c (inl (leaf, has, is)) = inl (leaf, Contains-append_left ls ms leaf has, is)
+asks_left plan f ls ms ps qs c (inr is) = asks_parts plan f (ls ++ ms) ps qs c is
+
+pub asks_right : (plan : Plan) (f : ℕ) (ls ms : List LeafRead) (ps qs : List (List Step)) (c : Condition) → Asks plan f ms qs c → Asks plan f (ls ++ ms) (ps ++ qs) c
+asks_right plan f ls ms ps qs c (inl (leaf, has, is)) = inl (leaf, Contains-append_right ls ms leaf has, is)
+asks_right plan f ls ms ps qs c (inr (steps, has, is)) = inr (steps, Contains-append_right ps qs steps has, is)
+
+-- frame tests that are asked for, with more of them
+asked_more : (now before : FrameTests) (plan : Plan) (P : Condition → Type 0) → AddsOnly now before (ColumnsFor plan P) (RowsFor plan P) → AreAsked before plan P → AreAsked now plan P
+asked_more now before plan P adds are = record {
+  columns = λ t has. elim (adds.columns t has) as (λ _. ColumnsFor plan P t) [ inl old ↦ are.columns t old | inr new ↦ new ];
+  rows = λ t has. elim (adds.rows t has) as (λ _. RowsFor plan P t) [ inl old ↦ are.rows t old | inr new ↦ new ];
+}
+
+-- where each condition has one result, there are no registers for frame tests
+pub none_asked : (b : Netlist) (p : Program) (plan : Plan) (tests : FrameTests) → IsPlan plan → AreFrameTests b (size_in plan) tests → AreAsked tests plan (IsAsked p plan) → NeedsNoTest p plan → test_bits tests ≡ 0
+none_asked b p plan tests is tests_are asked fixed =
+    let some = is.system.stencils.frame.some_columns in
+    let tall = is.system.stencils.frame.some_rows in
+    no_bits b (size_in plan) tests tests_are
+    (λ t has divides. let a = asked.columns t has in no_columns (size_in plan) some tall (delay_of plan a.0.image) (Meets (size_in plan) a.0) t a.2 divides (fixed a.0 a.1))
+    (λ t has divides. let a = asked.rows t has in no_rows (size_in plan) some tall (delay_of plan a.0.image) (Meets (size_in plan) a.0) t a.2 divides (fixed a.0 a.1))
 
 -- the shapes of arrays, with more behind
 long_more : (long : (words : ℕ) → Bool) (xs ys : List Shape) → long_words long (xs ++ ys) ≡ long_words long xs ++ long_words long ys
@@ -87,9 +140,9 @@ distinct_more : (xs ys zs was : List ℕ) → zs ≡ xs ++ ys → was ≡ distin
 distinct_more xs ys zs was all is = ap (λ (ws : List ℕ). fold with_new ws ys) is ∙ sym (fold-append with_new [] xs ys) ∙ ap distinct (sym all)
 
 -- one image more
-pub registers_more : (c b a : Netlist) (p : Program) (plan : Plan) (f : ℕ) (long : (words : ℕ) → Bool) (shapes : List Shape) (now before : Turns) (tests was : FrameTests) →
-    b.arrays ≡ a.arrays → c.arrays ≡ b.arrays ++ shapes → (NeedsNoTest p plan → IsFixedImage p plan f) → AddsNeeded b a tests was (IsFixedImage p plan f) → CountsTurns c b now before long shapes → CountsRegisters a p plan long before was → CountsRegisters c p plan long now tests
-registers_more c b a p plan f long shapes now before tests was kept added fixed needed turns is =
+pub registers_more : (c b a : Netlist) (p : Program) (plan : Plan) (long : (words : ℕ) → Bool) (shapes : List Shape) (now before : Turns) (tests was : FrameTests) →
+    b.arrays ≡ a.arrays → c.arrays ≡ b.arrays ++ shapes → AddsNeeded b a tests was plan (IsAsked p plan) → CountsTurns c b now before long shapes → CountsRegisters a p plan long before was → CountsRegisters c p plan long now tests
+registers_more c b a p plan long shapes now before tests was kept added needed turns is =
     let all : c.arrays ≡ a.arrays ++ shapes = added ∙ ap (λ (ss : List Shape). ss ++ shapes) kept in
     record {
       lines = turns.lines ∙ distinct_more (short_words long a.arrays) (short_words long shapes) (short_words long c.arrays) (line_words before) (ap (short_words long) all ∙ short_more long a.arrays shapes) is.lines;
@@ -100,7 +153,7 @@ registers_more c b a p plan f long shapes now before tests was kept added fixed 
           let other = turns.bits in
           let first = is.bits in
           omega (arith, copies, one, other, first);
-      none = λ no. ap test_bits (needed.none (fixed no)) ∙ is.none no;
+      asked = asked_more tests was plan (IsAsked p plan) needed.only is.asked;
     }
 
 -- no image yet
@@ -114,7 +167,10 @@ registers_none b p plan long turns tests no_regs no_arrays no_lines no_blocks no
       let lines : index_bits (line_words turns) ≡ 0 = ap index_bits no_lines in
       let blocks : index_bits (block_words turns) ≡ 0 = ap index_bits no_blocks in
       omega (arith, regs, copies, lines, blocks, no_tests);
-  none = λ no. no_tests;
+  asked = record {
+    columns = λ t has. (let h = has.1 in absurd (let f : ⊥ = omega (arith, h, no_tests) in f));
+    rows = λ t has. (let h = has.1 in absurd (let f : ⊥ = omega (arith, h, no_tests) in f));
+  };
 }
 
 -- which numbers a list has with one more that may be new

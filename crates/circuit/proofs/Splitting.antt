@@ -17,7 +17,7 @@ use Rattle.buffer_plan.specs.Plans.{Plan, place_in, ages_of}
 use Rattle.buffer_plan.proofs.Aged.{are_ages}
 use Rattle.buffer_plan.proofs.Distinct.{one_of, none_in}
 use Rattle.line_buffer.specs.Places as L
-use Rattle.line_buffer.specs.Places.{Place, word_at, Ascend}
+use Rattle.line_buffer.specs.Places.{Place, word_at}
 use Rattle.line_buffer.specs.Streams.{IsPixel, BufferIsRight}
 use Rattle.line_buffer.specs.Buffers.{IsBuffer}
 use Rattle.line_buffer.specs.Chains.{AreMadeOfShort}

@@ -1,10 +1,9 @@
 // The net of a read: of the taps of the image that is read the one to which the steps lead.
 
-ghost use Rattle.std.specs.Prelude.{◌≡◌, ◌<◌, [], ◌∷◌, ◌++◌, ℕ, List, Contains, IfOk, IfSome, OnOk, IsTrue, length};
+ghost use Rattle.std.specs.Prelude.{◌≡◌, ◌<◌, [], ◌∷◌, ℕ, Contains, IfOk, IfSome, OnOk, IsTrue};
 ghost use Rattle.dk_base.specs.Frames.{Size};
 ghost use Rattle.dk_base.specs.declared.stencils.LiveRead.{LiveRead};
 ghost use Rattle.dk_base.specs.Types.{width_of};
-ghost use Rattle.pointwise_ir.specs.Programs.{types_of};
 ghost use Rattle.wiring.specs.Netlist.{Netlist, net_width};
 ghost use Rattle.wiring.specs.Sizes.{IsWidth};
 ghost use Rattle.net_build.specs.Includes.{Includes};
@@ -17,7 +16,7 @@ ghost use Rattle.circuit.specs.Rounds.{type_at};
 ghost use Rattle.circuit.specs.Leaves.{leaf_at};
 ghost use Rattle.circuit.specs.Taps.{IsReading, size_in};
 ghost use Rattle.circuit.specs.Reads.{ChoosesAlso, Chooses, IsReadNet, IsNetOf, reads_in, atom_of_choice, choice_nets, chosen_by};
-ghost use Rattle.circuit.specs.Registers.{IsFixedRead, IsFixedLeaf, AddsNeeded};
+ghost use Rattle.circuit.specs.Registers.{AsksRead, AsksLeaf, AddsNeeded};
 
 use crate::positions::test_at;
 use crate::reader::{Leaf, Reader, tap_of};
@@ -78,7 +77,7 @@ fn with_tap(
     requires before_width { IfSome before (λ n. net_width b.old n ≡ width_of (type_at reader.now.ir.now read.g)) }
     ensures adds { OnOk result (AddsTests b.new b.old tests.new tests.old) }
     ensures tests { OnOk result (AreFrameTests b.new (size_in reader.now.plan.now) tests.new) }
-    ensures needed { OnOk result (AddsNeeded b.new b.old tests.new tests.old (IsFixedRead (size_in reader.now.plan.now) (leaf_at read.g steps.now) read)) }
+    ensures needed { OnOk result (AddsNeeded b.new b.old tests.new tests.old reader.now.plan.now (AsksRead reader.now.image (leaf_at read.g steps.now) read)) }
     ensures choice { IfOk result (ChoosesAlso b.new b.old reader.now.ir.now reader.now.plan.now reader.now.taps.now reader.now.image
         (leaf_at read.g steps.now) read before) }
 {
@@ -135,7 +134,7 @@ fn with_read(
     requires before_width { IfSome before (λ n. net_width b.old n ≡ width_of (type_at reader.now.ir.now leaf.image)) }
     ensures adds { OnOk result (AddsTests b.new b.old tests.new tests.old) }
     ensures tests { OnOk result (AreFrameTests b.new (size_in reader.now.plan.now) tests.new) }
-    ensures needed { OnOk result (AddsNeeded b.new b.old tests.new tests.old (IsFixedRead (size_in reader.now.plan.now) (leaf_at leaf.entry.image leaf.entry.steps.now) read)) }
+    ensures needed { OnOk result (AddsNeeded b.new b.old tests.new tests.old reader.now.plan.now (AsksRead reader.now.image (leaf_at leaf.entry.image leaf.entry.steps.now) read)) }
     ensures choice { IfOk result (ChoosesAlso b.new b.old reader.now.ir.now reader.now.plan.now reader.now.taps.now reader.now.image
         (leaf_at leaf.entry.image leaf.entry.steps.now) read before) }
 {
@@ -161,7 +160,7 @@ fn choice_of(
     requires tests { AreFrameTests b.old (size_in reader.now.plan.now) tests.old }
     ensures adds { OnOk result (AddsTests b.new b.old tests.new tests.old) }
     ensures tests { OnOk result (AreFrameTests b.new (size_in reader.now.plan.now) tests.new) }
-    ensures needed { OnOk result (AddsNeeded b.new b.old tests.new tests.old (IsFixedLeaf reader.now.plan.now reader.now.image (leaf_at leaf.entry.image leaf.entry.steps.now))) }
+    ensures needed { OnOk result (AddsNeeded b.new b.old tests.new tests.old reader.now.plan.now (AsksLeaf reader.now.plan.now reader.now.image (leaf_at leaf.entry.image leaf.entry.steps.now))) }
     ensures choice { IfOk result (Chooses b.new b.old reader.now.ir.now reader.now.plan.now reader.now.taps.now reader.now.image (leaf_at leaf.entry.image leaf.entry.steps.now)) }
 {
     let mut choice = None;
@@ -198,7 +197,7 @@ pub fn read_net(
     requires earlier { leaf.image < reader.now.image }
     ensures adds { OnOk result (AddsTests b.new b.old tests.new tests.old) }
     ensures tests { OnOk result (AreFrameTests b.new (size_in reader.now.plan.now) tests.new) }
-    ensures needed { OnOk result (AddsNeeded b.new b.old tests.new tests.old (IsFixedLeaf reader.now.plan.now reader.now.image (leaf_at leaf.entry.image leaf.entry.steps.now))) }
+    ensures needed { OnOk result (AddsNeeded b.new b.old tests.new tests.old reader.now.plan.now (AsksLeaf reader.now.plan.now reader.now.image (leaf_at leaf.entry.image leaf.entry.steps.now))) }
     ensures ty { IfOk result (λ n. n.0 ≡ type_at reader.now.ir.now leaf.entry.image) }
     ensures net { IfOk result (λ n. (first : Netlist) → Includes b.old first
         → IsReadNet b.new first reader.now.plan.now reader.now.taps.now reader.now.image (leaf_at leaf.entry.image leaf.entry.steps.now) (width_of n.0) n.1) }

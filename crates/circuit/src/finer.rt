@@ -1,7 +1,7 @@
 // Chains over more ages than are read: whether ages that are proposed make one, and the taps that are read of it.
 
-ghost use Rattle.std.specs.Prelude.{◌≡◌, ◌<◌, ℕ, length, Contains, slice_index_or, slice_get, Some, None, [], IfOk, MatchOption};
-ghost use Rattle.std.specs.List.{list_all, list_any};
+ghost use Rattle.std.specs.Prelude.{◌≡◌, ◌<◌, length, Contains, slice_index_or, slice_get, Some, None, [], IfOk, MatchOption};
+ghost use Rattle.std.specs.List.{list_all};
 ghost use Rattle.std.specs.List.Sorted.{IsStrictlyIncreasing};
 ghost use Rattle.line_buffer.specs.Places.{depth_of};
 ghost use Rattle.circuit.specs.Taps.{Keeps};

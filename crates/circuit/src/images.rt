@@ -1,14 +1,13 @@
 // The nets of images.
 
-ghost use Rattle.std.specs.Prelude.{[], IfOk, OnOk};
+ghost use Rattle.std.specs.Prelude.{IfOk, OnOk};
 ghost use Rattle.pointwise_ir.specs.Trees.{tree_of};
 ghost use Rattle.pointwise_ir.specs.Programs.{IsBody};
 ghost use Rattle.net_build.specs.Includes.{Includes};
 ghost use Rattle.edge_select.specs.FrameTests.{AddsTests, AreFrameTests};
 ghost use Rattle.circuit.specs.Taps.{IsReading, size_in};
 ghost use Rattle.circuit.specs.Images.{IsImageNet, ports_of};
-ghost use Rattle.circuit.specs.Leaves.{reads_of, bits_of};
-ghost use Rattle.circuit.specs.Registers.{AreFixed, IsFixedImage, AddsNeeded};
+ghost use Rattle.circuit.specs.Registers.{IsAsked, AddsNeeded};
 
 use crate::known::BodyLeaves;
 use crate::leaves::push_leaves;
@@ -34,7 +33,7 @@ fn body_net(
     requires body { IsBody reader.now.ir.now reader.now.image (tree_of body.now) }
     ensures adds { OnOk result (AddsTests b.new b.old tests.new tests.old) }
     ensures tests { OnOk result (AreFrameTests b.new (size_in reader.now.plan.now) tests.new) }
-    ensures needed { OnOk result (AddsNeeded b.new b.old tests.new tests.old (AreFixed reader.now.plan.now reader.now.image (reads_of (tree_of body.now) []) (bits_of (tree_of body.now) []))) }
+    ensures needed { OnOk result (AddsNeeded b.new b.old tests.new tests.old reader.now.plan.now (IsAsked reader.now.ir.now reader.now.plan.now)) }
     ensures net { IfOk result (IsImageNet b.new b.old reader.now.ir.now reader.now.plan.now reader.now.taps.now reader.now.image) }
 {
     reader.ir.law();
@@ -58,7 +57,7 @@ pub fn image_net(
     requires ports { Includes b.old (ports_of reader.now.ir.now b.old.enable) }
     ensures adds { OnOk result (AddsTests b.new b.old tests.new tests.old) }
     ensures tests { OnOk result (AreFrameTests b.new (size_in reader.now.plan.now) tests.new) }
-    ensures needed { OnOk result (AddsNeeded b.new b.old tests.new tests.old (IsFixedImage reader.now.ir.now reader.now.plan.now reader.now.image)) }
+    ensures needed { OnOk result (AddsNeeded b.new b.old tests.new tests.old reader.now.plan.now (IsAsked reader.now.ir.now reader.now.plan.now)) }
     ensures net { IfOk result (IsImageNet b.new b.old reader.now.ir.now reader.now.plan.now reader.now.taps.now reader.now.image) }
 {
     reader.ir.law();

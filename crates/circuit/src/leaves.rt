@@ -1,13 +1,13 @@
 // The leaves of an expression, in the order of its nodes.
 
-ghost use Rattle.std.specs.Prelude.{◌≡◌, ◌++◌, ◌∷◌, [], ◌<◌, All, IfSome, OnOk};
+ghost use Rattle.std.specs.Prelude.{◌≡◌, ◌++◌, ◌∷◌, [], ◌<◌, IfSome, OnOk};
 ghost use Rattle.pointwise_ir.specs.Trees.{tree_of};
 ghost use Rattle.edge_select.specs.FrameTests.{AddsTests, AreFrameTests};
 ghost use Rattle.circuit.specs.Leaves.{leaf_at, reads_of, bits_of, own_bit, ReadsBefore};
 ghost use Rattle.circuit.specs.Known.{leaf_of, IsKnownNet};
 ghost use Rattle.circuit.specs.Taps.{IsReading, size_in};
 ghost use Rattle.circuit.specs.Reads.{AddsLeaves};
-ghost use Rattle.circuit.specs.Registers.{IsFixedLeaf, IsFixedPart, AreFixed, AddsNeeded};
+ghost use Rattle.circuit.specs.Registers.{AsksLeaf, AsksParts, Asks, AddsNeeded};
 
 use crate::choices::read_net;
 use crate::known::{BodyLeaves, ReadKey};
@@ -55,7 +55,7 @@ fn push_new(
     requires key { leaf_of key ≡ leaf_at leaf.image leaf.steps.now }
     ensures adds { OnOk result (AddsTests b.new b.old tests.new tests.old) }
     ensures tests { OnOk result (AreFrameTests b.new (size_in reader.now.plan.now) tests.new) }
-    ensures needed { OnOk result (AddsNeeded b.new b.old tests.new tests.old (IsFixedLeaf reader.now.plan.now reader.now.image (leaf_at leaf.entry.image leaf.entry.steps.now))) }
+    ensures needed { OnOk result (AddsNeeded b.new b.old tests.new tests.old reader.now.plan.now (AsksLeaf reader.now.plan.now reader.now.image (leaf_at leaf.entry.image leaf.entry.steps.now))) }
     ensures leaves { OnOk result (AddsLeaves b.new b.old reader.now.ir.now reader.now.plan.now reader.now.taps.now reader.now.image
         (leaf_at leaf.entry.image leaf.entry.steps.now ∷ []) [] leaves.new leaves.old) }
 {
@@ -78,7 +78,7 @@ fn push_net(
     requires earlier { leaf.image < reader.now.image }
     ensures adds { OnOk result (AddsTests b.new b.old tests.new tests.old) }
     ensures tests { OnOk result (AreFrameTests b.new (size_in reader.now.plan.now) tests.new) }
-    ensures needed { OnOk result (AddsNeeded b.new b.old tests.new tests.old (IsFixedLeaf reader.now.plan.now reader.now.image (leaf_at leaf.entry.image leaf.entry.steps.now))) }
+    ensures needed { OnOk result (AddsNeeded b.new b.old tests.new tests.old reader.now.plan.now (AsksLeaf reader.now.plan.now reader.now.image (leaf_at leaf.entry.image leaf.entry.steps.now))) }
     ensures leaves { OnOk result (AddsLeaves b.new b.old reader.now.ir.now reader.now.plan.now reader.now.taps.now reader.now.image
         (leaf_at leaf.entry.image leaf.entry.steps.now ∷ []) [] leaves.new leaves.old) }
 {
@@ -109,7 +109,7 @@ fn push_read(
     requires earlier { read.image < reader.now.image }
     ensures adds { OnOk result (AddsTests b.new b.old tests.new tests.old) }
     ensures tests { OnOk result (AreFrameTests b.new (size_in reader.now.plan.now) tests.new) }
-    ensures needed { OnOk result (AddsNeeded b.new b.old tests.new tests.old (IsFixedLeaf reader.now.plan.now reader.now.image (leaf_at read.image (steps.old.items ++ read.step ∷ [])))) }
+    ensures needed { OnOk result (AddsNeeded b.new b.old tests.new tests.old reader.now.plan.now (AsksLeaf reader.now.plan.now reader.now.image (leaf_at read.image (steps.old.items ++ read.step ∷ [])))) }
     ensures steps { OnOk result (steps.new.items ≡ steps.old.items) }
     ensures leaves { OnOk result (AddsLeaves b.new b.old reader.now.ir.now reader.now.plan.now reader.now.taps.now reader.now.image
         ((record { image = read.image; steps = steps.old.items ++ read.step ∷ [] }) ∷ []) [] leaves.new leaves.old) }
@@ -137,7 +137,7 @@ fn push_test(
     requires tests { AreFrameTests b.old (size_in reader.now.plan.now) tests.old }
     ensures adds { OnOk result (AddsTests b.new b.old tests.new tests.old) }
     ensures tests { OnOk result (AreFrameTests b.new (size_in reader.now.plan.now) tests.new) }
-    ensures needed { OnOk result (AddsNeeded b.new b.old tests.new tests.old (All (IsFixedPart reader.now.plan.now) (own_bit edge steps.now))) }
+    ensures needed { OnOk result (AddsNeeded b.new b.old tests.new tests.old reader.now.plan.now (AsksParts reader.now.image (own_bit edge steps.now))) }
     ensures leaves { OnOk result (AddsLeaves b.new b.old reader.now.ir.now reader.now.plan.now reader.now.taps.now reader.now.image
         [] (own_bit edge steps.now) leaves.new leaves.old) }
 {
@@ -171,7 +171,7 @@ pub fn push_leaves(
     requires earlier { ReadsBefore reader.now.image (tree_of e.now) }
     ensures adds { OnOk result (AddsTests b.new b.old tests.new tests.old) }
     ensures tests { OnOk result (AreFrameTests b.new (size_in reader.now.plan.now) tests.new) }
-    ensures needed { OnOk result (AddsNeeded b.new b.old tests.new tests.old (AreFixed reader.now.plan.now reader.now.image (reads_of (tree_of e.now) steps.old.items) (bits_of (tree_of e.now) steps.old.items))) }
+    ensures needed { OnOk result (AddsNeeded b.new b.old tests.new tests.old reader.now.plan.now (Asks reader.now.plan.now reader.now.image (reads_of (tree_of e.now) steps.old.items) (bits_of (tree_of e.now) steps.old.items))) }
     ensures steps { OnOk result (steps.new.items ≡ steps.old.items) }
     ensures leaves { OnOk result (AddsLeaves b.new b.old reader.now.ir.now reader.now.plan.now reader.now.taps.now reader.now.image
         (reads_of (tree_of e.now) steps.old.items) (bits_of (tree_of e.now) steps.old.items) leaves.new leaves.old) }

@@ -2,12 +2,12 @@
 
 ghost use Rattle.std.specs.Prelude.{◌≡◌, ℕ, List, IfOk, OnOk};
 ghost use Rattle.wiring.specs.Netlist.{Netlist};
-ghost use Rattle.buffer_plan.specs.Plans.{IsPlan};
-ghost use Rattle.edge_select.specs.FrameTests.{AddsTests, AreFrameTests, IsApart, CountsTests, test_bits};
+ghost use Rattle.edge_select.specs.FrameTests.{AddsTests, AreFrameTests, IsApart, test_bits};
 ghost use Rattle.edge_select.specs.Steps.{LeadBy, LeadOn};
 ghost use Rattle.circuit.specs.Taps.{Keeps, size_in};
 ghost use Rattle.circuit.specs.Reads.{IsPixelTest};
-ghost use Rattle.circuit.specs.Registers.{IsFixedPart, AddsNeeded};
+ghost use Rattle.circuit.specs.Leaves.{leaf_at};
+ghost use Rattle.circuit.specs.Registers.{AsksRead, AsksPart, AddsNeeded};
 
 use crate::reader::Reader;
 use buffer_plan::Plan;
@@ -43,7 +43,7 @@ pub fn test_at(
     requires tests { AreFrameTests b.old (size_in reader.now.plan.now) tests.old }
     ensures adds { OnOk result (AddsTests b.new b.old tests.new tests.old) }
     ensures tests { OnOk result (AreFrameTests b.new (size_in reader.now.plan.now) tests.new) }
-    ensures counts { OnOk result (CountsTests b.new b.old tests.new tests.old) }
+    ensures needed { OnOk result (AddsNeeded b.new b.old tests.new tests.old reader.now.plan.now (AsksRead reader.now.image (leaf_at read.g steps.now) read)) }
     ensures test { IfOk result (IsPixelTest b.new reader.now.plan.now reader.now.image (LeadBy (size_in reader.now.plan.now) steps.now read.dx read.dy)) }
 {
     let delay = reader.plan.delay(reader.image);
@@ -63,7 +63,7 @@ fn test_leads(
     requires tests { AreFrameTests b.old (size_in plan.now) tests.old }
     ensures adds { OnOk result (AddsTests b.new b.old tests.new tests.old) }
     ensures tests { OnOk result (AreFrameTests b.new (size_in plan.now) tests.new) }
-    ensures counts { OnOk result (CountsTests b.new b.old tests.new tests.old) }
+    ensures needed { OnOk result (AddsNeeded b.new b.old tests.new tests.old plan.now (AsksPart f steps.now)) }
     ensures test { IfOk result (IsPixelTest b.new plan.now f (LeadOn (size_in plan.now) steps.now)) }
 {
     let delay = plan.delay(f);
@@ -83,7 +83,7 @@ pub fn test_on(
     requires tests { AreFrameTests b.old (size_in plan.now) tests.old }
     ensures adds { OnOk result (AddsTests b.new b.old tests.new tests.old) }
     ensures tests { OnOk result (AreFrameTests b.new (size_in plan.now) tests.new) }
-    ensures needed { OnOk result (AddsNeeded b.new b.old tests.new tests.old (IsFixedPart plan.now steps.now)) }
+    ensures needed { OnOk result (AddsNeeded b.new b.old tests.new tests.old plan.now (AsksPart f steps.now)) }
     ensures test { IfOk result (IsPixelTest b.new plan.now f (LeadOn (size_in plan.now) steps.now)) }
 {
     plan.law();

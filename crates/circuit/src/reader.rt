@@ -1,6 +1,6 @@
 // An image that reads others, and what it reads.
 
-ghost use Rattle.std.specs.Prelude.{◌≡◌, ◌<◌, Some, Contains, length, slice_get, slice_index, slice_index_or, []};
+ghost use Rattle.std.specs.Prelude.{◌≡◌, ◌<◌, Some, Contains, length, slice_get};
 ghost use Rattle.std.specs.List.Sorted.{IsStrictlyIncreasing};
 ghost use Rattle.buffer_plan.specs.Plans.{place_in, ages_of};
 ghost use Rattle.circuit.specs.Taps.{taps_at, IsTapOf};

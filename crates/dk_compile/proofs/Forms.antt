@@ -1,10 +1,9 @@
 -- An inlining with folded constants is a form of the program.
 use Rattle.std.proofs.Common.{List, length, map, slice_get, ap, ◌∙◌, subst}
-use Rattle.dk_base.specs.Frames.{Size, Picture}
+use Rattle.dk_base.specs.Frames.{Size, Picture, picture_at}
 use Rattle.dk_types.specs.Typed.{Typing}
 use Rattle.pointwise_ir.specs.declared.program.Input.{Input}
 use Rattle.pointwise_ir.specs.Programs.{Program}
-use Rattle.dk_base.specs.Frames.{picture_at}
 use Rattle.pointwise_ir.specs.Meaning.{IsPicture, IsRound}
 use Rattle.pointwise_ir.specs.Passes.{KeepsMeaning}
 use Rattle.dk_inline.specs.Answers.{IsInlining, KeepsProgram}

@@ -1,14 +1,13 @@
 -- The forms of programs that are given on: images without inline ones, and their stencils.
 use Rattle.std.specs.Prelude.{◌≡◌, ◌↔◌, ℕ, ◌≤◌, ℤ, List, length, map}
 use Rattle.dk_base.specs.declared.TheConstants.{MAX_LIVE_READS}
-use Rattle.dk_base.specs.Frames.{Picture}
+use Rattle.dk_base.specs.Frames.{Picture, picture_at}
 use Rattle.dk_base.specs.Stencils.{Stencils}
 use Rattle.dk_types.specs.Typed.{Typing, types_of}
 use Rattle.dk_types.specs.Meaning.{meaning}
 use Rattle.dk_types.specs.Reads.{IsLive, IsKept}
 use Rattle.pointwise_ir.specs.Programs.{Program, names_of}
 use Rattle.pointwise_ir.specs.Programs as P
-use Rattle.dk_base.specs.Frames.{picture_at}
 use Rattle.pointwise_ir.specs.Meaning.{pictures, IsRound}
 use Rattle.pointwise_ir.specs.Reads as R
 use Rattle.dk_inline.specs.Inlined.{Stays}

@@ -6,7 +6,6 @@ ghost use Rattle.dk_types.specs.Typed.{Typing};
 ghost use Rattle.flow_dual.specs.Solutions.{IsSolution};
 ghost use Rattle.wiring.specs.BufferBits.{array_bits};
 ghost use Rattle.net_build.specs.Naming.{names_for};
-ghost use Rattle.pointwise_ir.specs.Programs.{IsProgram};
 ghost use Rattle.buffer_plan.specs.Plans.{IsPlan, bits_of};
 ghost use Rattle.buffer_plan.specs.Limits.{IsPlanFault};
 ghost use Rattle.circuit.specs.Behaviour.{IsPlanOf};

@@ -228,6 +228,11 @@ test_computes new mid old from t None n grows older is net =
 test_computes new mid old from t (Some k) n grows older is net = subst (Computes new old from 1 (λ s. bit (t s))) (sym net) (computes_more new mid old from 1 (λ s. bit (t s)) k grows is)
 
 -- the bit of a test
+-- the bit of what holds for the same reason
+pub bit_as : (P Q : Type 0) (v : ℕ) → (P → Q) → (Q → P) → IsBitOf P v → IsBitOf Q v
+bit_as P Q v f g (inl h) = inl (f h.0, h.1)
+bit_as P Q v f g (inr h) = inr ((λ q. h.0 (g q)), h.1)
+
 pub bit_of : (P : Type 0) (t : Bool) → (IsTrue t → P) → (P → IsTrue t) → IsBitOf P (bit t)
 bit_of P true f g = inl (f refl, refl)
 bit_of P false f g = inr ((λ p. (let h : IsTrue false = g p in cc)), refl)
@@ -342,22 +347,14 @@ pub test_as : (new old : Netlist) (p : Pixel) (passes other : (x y : ℕ) → Ty
 test_as new old p passes other n is f g = record {
   net = is.net;
   width = is.width;
-  value = λ m s part settled frame. by (net_value s p.column) (net_value s p.row) (net_value s n) (is.value m s part settled frame);
+  value = λ m s part settled frame. (let x = net_value s p.column in let y = net_value s p.row in bit_as (passes x y) (other x y) (net_value s n) (f x y) (g x y) (is.value m s part settled frame));
   made_of = is.made_of;
 }
-  where
-    by : (x y v : ℕ) → IsBitOf (passes x y) v → IsBitOf (other x y) v
-    by x y v (inl h) = inl (f x y h.0, h.1)
-    by x y v (inr h) = inr ((λ q. h.0 (g x y q)), h.1)
 
 pub test_within : (new old : Netlist) (p : Pixel) (passes other : (x y : ℕ) → Type 0) (n : Net) → IsTest new old p passes n → ((x y : ℕ) → x < p.size.width → y < p.size.height → (passes x y → other x y) × (other x y → passes x y)) → IsTest new old p other n
 test_within new old p passes other n is same = record {
   net = is.net;
   width = is.width;
-  value = λ m s part settled frame. by (net_value s p.column) (net_value s p.row) (net_value s n) (same (net_value s p.column) (net_value s p.row) frame.column frame.row) (is.value m s part settled frame);
+  value = λ m s part settled frame. (let x = net_value s p.column in let y = net_value s p.row in let e = same x y frame.column frame.row in bit_as (passes x y) (other x y) (net_value s n) e.0 e.1 (is.value m s part settled frame));
   made_of = is.made_of;
 }
-  where
-    by : (x y v : ℕ) → (passes x y → other x y) × (other x y → passes x y) → IsBitOf (passes x y) v → IsBitOf (other x y) v
-    by x y v f (inl h) = inl (f.0 h.0, h.1)
-    by x y v f (inr h) = inr ((λ q. h.0 (f.1 q)), h.1)

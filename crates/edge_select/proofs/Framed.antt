@@ -38,6 +38,7 @@ use Rattle.edge_select.proofs.Lasting.{follows_more}
 use Rattle.edge_select.proofs.Depth.{depth_more}
 use Rattle.edge_select.proofs.Raster.{place}
 use Rattle.edge_select.proofs.Inverting.{inverted}
+use Rattle.edge_select.proofs.Combining.{bit_as}
 use Rattle.edge_select.proofs.Shifts.{column_moved, row_moved}
 
 -- as the netlist grows
@@ -229,10 +230,6 @@ module _ (b : Netlist) (size : Size) (delay : ℕ) (some : 1 ≤ size.width) (ta
   }
 
   -- of the same pixels, said in another way
-  by_same : (P Q : Type 0) (v : ℕ) → (P → Q) → (Q → P) → IsBitOf P v → IsBitOf Q v
-  by_same P Q v f g (inl h) = inl (f h.0, h.1)
-  by_same P Q v f g (inr h) = inr ((λ q. h.0 (g q)), h.1)
-
   pub test_same : (passes other : (x y : ℕ) → Type 0) (n : Net) → IsFrameTest b size delay passes n → ((x y : ℕ) → x < size.width → y < size.height → (passes x y → other x y) × (other x y → passes x y)) → IsFrameTest b size delay other n
   test_same passes other n is same = record {
     there = is.there;
@@ -240,7 +237,7 @@ module _ (b : Netlist) (size : Size) (delay : ℕ) (some : 1 ≤ size.width) (ta
     value = λ m from before c s clock since k sum.
         let p = place size k some tall in
         let e = same (column size k) (row size k) p.column_below p.row_below in
-        by_same (passes (column size k) (row size k)) (other (column size k) (row size k)) (net_value s n) e.0 e.1 (is.value m from before c s clock since k sum);
+        bit_as (passes (column size k) (row size k)) (other (column size k) (row size k)) (net_value s n) e.0 e.1 (is.value m from before c s clock since k sum);
     made = is.made;
   }
 

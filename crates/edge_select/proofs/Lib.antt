@@ -19,3 +19,4 @@ pub mod Depth
 pub mod Differing
 pub mod Bits
 pub mod Everywhere
+pub mod Asked

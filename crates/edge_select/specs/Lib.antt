@@ -5,3 +5,4 @@ pub mod Pixels
 pub mod Bands
 pub mod Counters
 pub mod FrameTests
+pub mod Asked

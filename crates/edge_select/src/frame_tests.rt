@@ -1,9 +1,8 @@
 // Tests of the pixels of a module, for each delay: one pair of counters, and registers of one bit.
 
-ghost use Rattle.std.specs.Prelude.{ℕ, ◌≡◌, ◌<◌, ◌+◌, ◌-◌, ◌^◌, ◌==◌, true, if◌then◌else◌, IsTrue, List, [], ◌∷◌, ◌++◌, Contains, Some, IfOk, IfSome, IfNone, OnOk};
+ghost use Rattle.std.specs.Prelude.{ℕ, ◌≡◌, ◌<◌, ◌+◌, ◌-◌, ◌==◌, true, if◌then◌else◌, IsTrue, List, Contains, Some, IfOk, IfSome, IfNone, OnOk};
 ghost use Rattle.dk_base.specs.FrameSizes.{size_of};
 ghost use Rattle.wiring.specs.Netlist.{Netlist, net_width};
-ghost use Rattle.wiring.specs.Snapshot.{net_value};
 ghost use Rattle.wiring.specs.Clock.{bit};
 ghost use Rattle.wiring.specs.declared.netlist.Holder.TheVariants.{OfNet};
 ghost use Rattle.net_build.specs.Draft.{IsNet};
@@ -15,10 +14,10 @@ ghost use Rattle.net_build.specs.Counters.{after, Starts};
 ghost use Rattle.frame_paths.specs.Moves.{IsIn, IsInterval};
 ghost use Rattle.edge_select.specs.Steps.{LeadBy, LeadOn};
 ghost use Rattle.edge_select.specs.Bands.{IsBand, in_band};
-ghost use Rattle.edge_select.specs.Logic.{IsBit};
 ghost use Rattle.edge_select.specs.Pixels.{AllPass};
 ghost use Rattle.edge_select.specs.Passes.{IsRectangle, Passes, PassesOn};
-ghost use Rattle.edge_select.specs.FrameTests.{AddsRegisterOf, takes, AddsBeside, AddsTests, AreCounters, IsColumnTest, IsRowTest, AreFrameTests, IsFrameTest, IsPartTest, IsApart, IsTestOf, sources, Divides, HasNone, counter_bits, CountsTests, test_bits, start_bits};
+ghost use Rattle.edge_select.specs.FrameTests.{takes, AddsBeside, AddsTests, AreCounters, IsColumnTest, IsRowTest, AreFrameTests, IsFrameTest, IsPartTest, IsApart, IsTestOf, Divides, HasNone, counter_bits, CountsTests, test_bits, start_bits};
+ghost use Rattle.edge_select.specs.Asked.{SeparatesColumns, SeparatesRows, AddsOnly, AddsFor};
 
 use crate::bands::{
     Band, band_test, before, equal_to, first_bit, interval_of, moved, one_before, same_band, turned,
@@ -172,6 +171,7 @@ fn column_test(b: &mut Builder, tests: &mut FrameTests, band: Band) -> Result<Ne
     requires divides { Divides tests.old.size.width band }
     ensures adds { OnOk result (AddsTests b.new b.old tests.new tests.old) }
     ensures registers { OnOk result (CountsTests b.new b.old tests.new tests.old) }
+    ensures only { OnOk result (AddsOnly tests.new tests.old (λ t. t.band ≡ band) (λ t. ⊥)) }
     ensures tests { OnOk result (AreFrameTests b.new (size_of tests.old.size) tests.new) }
     ensures test { IfOk result (λ n. IsColumnTest b.new (size_of tests.old.size) (record { start = 0; band = band; net = n })) }
 {
@@ -202,6 +202,7 @@ fn row_test(
     requires divides { Divides tests.old.size.height band }
     ensures adds { OnOk result (AddsTests b.new b.old tests.new tests.old) }
     ensures registers { OnOk result (CountsTests b.new b.old tests.new tests.old) }
+    ensures only { OnOk result (AddsOnly tests.new tests.old (λ t. ⊥) (λ t. (t.start ≡ start) × (t.band ≡ band))) }
     ensures tests { OnOk result (AreFrameTests b.new (size_of tests.old.size) tests.new) }
     ensures test { IfOk result (λ n. IsRowTest b.new (size_of tests.old.size) (record { start = start; band = band; net = n })) }
 {
@@ -226,6 +227,7 @@ fn across_test(
     requires interval { IsInterval tests.old.size.width interval }
     ensures adds { OnOk result (AddsTests b.new b.old tests.new tests.old) }
     ensures registers { OnOk result (CountsTests b.new b.old tests.new tests.old) }
+    ensures only { OnOk result (AddsOnly tests.new tests.old (SeparatesColumns (size_of tests.old.size) delay (IsIn interval)) (λ t. ⊥)) }
     ensures none { OnOk result (((x : ℕ) → x < tests.old.size.width → IsIn interval x) → tests.new ≡ tests.old) }
     ensures tests { OnOk result (AreFrameTests b.new (size_of tests.old.size) tests.new) }
     ensures test { IfOk result (IsPartTest b.new (size_of tests.old.size) delay (λ x y. IsIn interval x)) }
@@ -253,6 +255,7 @@ fn down_test(
     requires interval { IsInterval tests.old.size.height interval }
     ensures adds { OnOk result (AddsTests b.new b.old tests.new tests.old) }
     ensures registers { OnOk result (CountsTests b.new b.old tests.new tests.old) }
+    ensures only { OnOk result (AddsOnly tests.new tests.old (λ t. ⊥) (SeparatesRows (size_of tests.old.size) delay (IsIn interval))) }
     ensures none { OnOk result (((y : ℕ) → y < tests.old.size.height → IsIn interval y) → tests.new ≡ tests.old) }
     ensures tests { OnOk result (AreFrameTests b.new (size_of tests.old.size) tests.new) }
     ensures test { IfOk result (IsPartTest b.new (size_of tests.old.size) delay (λ x y. IsIn interval y)) }
@@ -282,6 +285,7 @@ fn rectangle_of(
     requires rectangle { IsRectangle (size_of tests.old.size) rectangle }
     ensures adds { OnOk result (AddsTests b.new b.old tests.new tests.old) }
     ensures registers { OnOk result (CountsTests b.new b.old tests.new tests.old) }
+    ensures only { OnOk result (AddsFor (size_of tests.old.size) delay (Passes rectangle) tests.new tests.old) }
     ensures none { OnOk result (AllPass tests.old.size.width tests.old.size.height (Passes rectangle) → tests.new ≡ tests.old) }
     ensures tests { OnOk result (AreFrameTests b.new (size_of tests.old.size) tests.new) }
     ensures test { IfOk result (IsFrameTest b.new (size_of tests.old.size) delay (Passes rectangle)) }
@@ -305,6 +309,7 @@ fn test_of(
     requires rectangle { IfSome rectangle (λ r. IsRectangle (size_of tests.old.size) r) }
     ensures adds { OnOk result (AddsTests b.new b.old tests.new tests.old) }
     ensures registers { OnOk result (CountsTests b.new b.old tests.new tests.old) }
+    ensures only { OnOk result (AddsFor (size_of tests.old.size) delay (PassesOn rectangle) tests.new tests.old) }
     ensures none { OnOk result (AllPass tests.old.size.width tests.old.size.height (PassesOn rectangle) → tests.new ≡ tests.old) }
     ensures tests { OnOk result (AreFrameTests b.new (size_of tests.old.size) tests.new) }
     ensures test { IfOk result (IsFrameTest b.new (size_of tests.old.size) delay (PassesOn rectangle)) }
@@ -350,6 +355,7 @@ impl FrameTests {
         requires tests { AreFrameTests b.old (size_of self.old.size) self.old }
         ensures adds { OnOk result (AddsTests b.new b.old self.new self.old) }
         ensures registers { OnOk result (CountsTests b.new b.old self.new self.old) }
+        ensures only { OnOk result (AddsFor (size_of self.old.size) delay (LeadBy (size_of self.old.size) steps.now dx dy) self.new self.old) }
         ensures none { OnOk result (AllPass self.old.size.width self.old.size.height (LeadBy (size_of self.old.size) steps.now dx dy) → self.new ≡ self.old) }
         ensures tests { OnOk result (AreFrameTests b.new (size_of self.old.size) self.new) }
         ensures test { IfOk result (IsFrameTest b.new (size_of self.old.size) delay (LeadBy (size_of self.old.size) steps.now dx dy)) }
@@ -365,6 +371,7 @@ impl FrameTests {
         requires tests { AreFrameTests b.old (size_of self.old.size) self.old }
         ensures adds { OnOk result (AddsTests b.new b.old self.new self.old) }
         ensures registers { OnOk result (CountsTests b.new b.old self.new self.old) }
+        ensures only { OnOk result (AddsFor (size_of self.old.size) delay (LeadOn (size_of self.old.size) steps.now) self.new self.old) }
         ensures none { OnOk result (AllPass self.old.size.width self.old.size.height (LeadOn (size_of self.old.size) steps.now) → self.new ≡ self.old) }
         ensures tests { OnOk result (AreFrameTests b.new (size_of self.old.size) self.new) }
         ensures test { IfOk result (IsFrameTest b.new (size_of self.old.size) delay (LeadOn (size_of self.old.size) steps.now)) }

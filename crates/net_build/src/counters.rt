@@ -203,7 +203,7 @@ fn counter_of(b: &mut Builder, last: u64, wraps: bool) -> Result<Net, OutOfMemor
     Ok(values.index)
 }
 
-/// A net that counts clocks from 0 to `last`, and then from 0 again: the number of the counted clocks since a reset, modulo `last` and one. It is 0 in a reset clock, and does not change in held clocks. It has one register, and one operator.
+/// A net that counts clocks from 0 to `last`, and then from 0 again: the number of the counted clocks since a reset, modulo `last` and one. It is 0 in a reset clock, and does not change in held clocks. It has one register, and no path of assigns to it has more than one operator.
 pub fn counter(b: &mut Builder, last: u64) -> Result<Net, OutOfMemory>
     ensures includes { Includes b.new b.old }
     ensures adds { OnOk result (AddsRegister b.new b.old (bit_count last)) }

@@ -2,11 +2,10 @@
 
 ghost use Rattle.std.specs.Prelude.{◌≡◌, ◌≢◌, ◌≤◌, Err, IfOk, IfErr, OnOk};
 ghost use Rattle.dk_words.specs.declared.command.Rewriting.TheVariants.{Widen};
-ghost use Rattle.dk_compile.specs.Widened.{IsWidened};
+ghost use Rattle.dk_compile.specs.Widened.{IsWidened, IsWidenErrorBy};
 ghost use Rattle.dk_top.specs.Verdict.{CanBeWidened};
 ghost use Rattle.dk_top.specs.Widening.{IsWidenLine, widen_line};
 ghost use Rattle.dk_top.specs.Reading.{Stops, IsRewriteEnding};
-ghost use Rattle.dk_compile.specs.Widened.{IsWidenErrorBy};
 
 use super::reported::{Rewritten, push_number};
 use crate::reading::ending_of;

@@ -6,8 +6,8 @@ use Rattle.net_build.proofs.Parts.{Includes-refl, includes_on}
 use Rattle.circuit.specs.Rounds.{type_at}
 use Rattle.circuit.specs.Leaves.{leaf_at}
 use Rattle.circuit.specs.Reads.{IsChoice}
-use Rattle.circuit.specs.Registers.{IsFixedLeaf}
-use Rattle.circuit.proofs.Registered.{needed_none, needed_on, fixed_at}
+use Rattle.circuit.specs.Registers.{AsksLeaf}
+use Rattle.circuit.proofs.Registered.{needed_none, needed_on, asks_at}
 use Rattle.circuit.proofs.Lasting.{reading_more}
 use Rattle.circuit.proofs.Placing.{tests_none, tests_on}
 use Rattle.circuit.proofs.Choosing.{choice_none}
@@ -16,7 +16,7 @@ use Rattle.circuit.proofs.choices.choice_of.Goals as goal
 pub loop-read-init : goal.loop-read-init
 loop-read-init c =
     let r = c.args.reader.now in
-    record { adds = tests_none c.args.b.now c.args.tests.now; needed = needed_none c.args.b.now c.args.tests.now (IsFixedLeaf r.plan.now r.image (leaf_at c.args.leaf.image c.args.leaf.steps.now)); tests = c.requires.tests; choice = λ first inc. choice_none c.args.b.now first r.plan.now r.taps.now r.image (leaf_at c.args.leaf.image c.args.leaf.steps.now) (width_of (type_at r.ir.now c.args.leaf.image)) }
+    record { adds = tests_none c.args.b.now c.args.tests.now; needed = needed_none c.args.b.now c.args.tests.now r.plan.now (AsksLeaf r.plan.now r.image (leaf_at c.args.leaf.image c.args.leaf.steps.now)); tests = c.requires.tests; choice = λ first inc. choice_none c.args.b.now first r.plan.now r.taps.now r.image (leaf_at c.args.leaf.image c.args.leaf.steps.now) (width_of (type_at r.ir.now c.args.leaf.image)) }
 
 pub with_read-requires-clause-reading : goal.with_read-requires-clause-reading
 with_read-requires-clause-reading c =
@@ -40,8 +40,8 @@ loop-read-preserved c =
     record {
       adds = tests_on c.args.b.now c.loop-read.b c.with_read.new.b c.args.tests.now c.loop-read.tests c.with_read.new.tests c.loop-read.invariant.adds c.in_ok-choice.ensures.adds;
       needed =
-          let P = IsFixedLeaf r.plan.now r.image (leaf_at c.args.leaf.image c.args.leaf.steps.now) in
-          needed_on c.with_read.new.b c.loop-read.b c.args.b.now c.with_read.new.tests c.loop-read.tests c.args.tests.now P _ P c.loop-read.invariant.needed c.in_ok-choice.ensures.needed (λ fixed. fixed) (fixed_at r.plan.now r.image (leaf_at c.args.leaf.image c.args.leaf.steps.now) items i _ c.reads-read-items.ensures c.loop-read-test.true);
+          let P = AsksLeaf r.plan.now r.image (leaf_at c.args.leaf.image c.args.leaf.steps.now) in
+          needed_on c.with_read.new.b c.loop-read.b c.args.b.now c.with_read.new.tests c.loop-read.tests c.args.tests.now r.plan.now P _ P c.loop-read.invariant.needed c.in_ok-choice.ensures.needed (λ d asks. asks) (asks_at r.plan.now r.image (leaf_at c.args.leaf.image c.args.leaf.steps.now) items i _ c.reads-read-items.ensures c.loop-read-test.true);
       tests = c.in_ok-choice.ensures.tests;
       choice = λ first inc.
           subst (λ (rs : List LiveRead). IsChoice c.with_read.new.b first r.plan.now r.taps.now r.image rs (leaf_at c.args.leaf.image c.args.leaf.steps.now) (width_of (type_at r.ir.now c.args.leaf.image)) c.in_ok-choice.choice) (sym (take_more items i _ c.loop-read-test.true))

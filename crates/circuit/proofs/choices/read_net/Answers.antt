@@ -11,8 +11,8 @@ use Rattle.edge_select.proofs.Framed.{tests_more}
 use Rattle.circuit.specs.Taps.{size_in}
 use Rattle.circuit.proofs.Taking.{chosen_is_read, type_wide}
 use Rattle.circuit.proofs.Typing.{type_is}
-use Rattle.circuit.proofs.Registered.{needed_logic, needed_on}
-use Rattle.circuit.specs.Registers.{IsFixedLeaf}
+use Rattle.circuit.proofs.Registered.{needed_then}
+use Rattle.circuit.specs.Registers.{AsksLeaf}
 use Rattle.circuit.proofs.choices.read_net.Goals as goal
 
 pub net_of-requires : goal.net_of-requires
@@ -41,5 +41,5 @@ returns-clause-net c first inc =
 
 pub returns-clause-needed : goal.returns-clause-needed
 returns-clause-needed c =
-    let P = IsFixedLeaf c.args.reader.now.plan.now c.args.reader.now.image (leaf_at c.args.leaf.image c.args.leaf.steps.now) in
-    needed_on c.net_of.new.b c.choice_of.new.b c.args.b.now c.choice_of.new.tests c.choice_of.new.tests c.args.tests.now P P P c.in_ok-choice.ensures.needed (needed_logic c.net_of.new.b c.choice_of.new.b c.choice_of.new.tests P c.in_ok-net.ensures.logic) (λ fixed. fixed) (λ fixed. fixed)
+    let r = c.args.reader.now in
+    needed_then c.net_of.new.b c.choice_of.new.b c.args.b.now c.choice_of.new.tests c.args.tests.now r.plan.now (AsksLeaf r.plan.now r.image (leaf_at c.args.leaf.image c.args.leaf.steps.now)) c.in_ok-choice.ensures.needed c.in_ok-net.ensures.logic

@@ -5,7 +5,7 @@ use Rattle.circuit.specs.Taps.{size_in}
 use Rattle.circuit.proofs.Placing.{tests_none, columns_below, rows_below}
 use Rattle.circuit.proofs.Choosing.{choice_kept, choice_other}
 use Rattle.circuit.proofs.Registered.{needed_none, needed_by}
-use Rattle.circuit.specs.Registers.{IsFixedRead}
+use Rattle.circuit.specs.Registers.{AsksRead}
 use Rattle.circuit.proofs.choices.with_read.Goals as goal
 
 pub returns-then-read-leaf-clause-adds : goal.returns-then-read-leaf-clause-adds
@@ -31,12 +31,12 @@ returns-clause-choice c =
     subst (λ (g : ℕ). ChoosesAlso c.with_tap.new.b c.args.b.now r.ir.now r.plan.now r.taps.now r.image (leaf_at g c.args.leaf.steps.now) c.args.read c.args.before c.in_ok-choice.choice) c.if-read-leaf.false c.in_ok-choice.ensures.choice
 
 pub returns-then-read-leaf-clause-needed : goal.returns-then-read-leaf-clause-needed
-returns-then-read-leaf-clause-needed c = needed_none c.args.b.now c.args.tests.now (IsFixedRead (size_in c.args.reader.now.plan.now) (leaf_at c.args.leaf.image c.args.leaf.steps.now) c.args.read)
+returns-then-read-leaf-clause-needed c = needed_none c.args.b.now c.args.tests.now c.args.reader.now.plan.now (AsksRead c.args.reader.now.image (leaf_at c.args.leaf.image c.args.leaf.steps.now) c.args.read)
 
 pub returns-then-misses-clause-needed : goal.returns-then-misses-clause-needed
-returns-then-misses-clause-needed c = needed_none c.args.b.now c.args.tests.now (IsFixedRead (size_in c.args.reader.now.plan.now) (leaf_at c.args.leaf.image c.args.leaf.steps.now) c.args.read)
+returns-then-misses-clause-needed c = needed_none c.args.b.now c.args.tests.now c.args.reader.now.plan.now (AsksRead c.args.reader.now.image (leaf_at c.args.leaf.image c.args.leaf.steps.now) c.args.read)
 
 pub returns-clause-needed : goal.returns-clause-needed
 returns-clause-needed c =
-    let size = size_in c.args.reader.now.plan.now in
-    needed_by c.with_tap.new.b c.args.b.now c.with_tap.new.tests c.args.tests.now (IsFixedRead size (leaf_at c.args.read.g c.args.leaf.steps.now) c.args.read) (IsFixedRead size (leaf_at c.args.leaf.image c.args.leaf.steps.now) c.args.read) (λ fixed same. fixed c.if-read-leaf.false) c.in_ok-choice.ensures.needed
+    let f = c.args.reader.now.image in
+    needed_by c.with_tap.new.b c.args.b.now c.with_tap.new.tests c.args.tests.now c.args.reader.now.plan.now (AsksRead f (leaf_at c.args.read.g c.args.leaf.steps.now) c.args.read) (AsksRead f (leaf_at c.args.leaf.image c.args.leaf.steps.now) c.args.read) (λ d asks. (c.if-read-leaf.false, asks.1)) c.in_ok-choice.ensures.needed

@@ -1,4 +1,4 @@
-use Rattle.std.proofs.Common.{rules, ◌≡◌, ℕ, ◌∙◌, refl, sym, subst, inl, inr, w32, to_z, of_z, FitsSigned}
+use Rattle.std.proofs.Common.{rules, ◌≡◌, ℕ, ◌∙◌, refl, sym, subst, w32, to_z, of_z, FitsSigned}
 use Rattle.std.specs.Prelude.{ℤ, ◌∷◌, IfSome}
 use Rattle.wiring.specs.Netlist.{net_width}
 use Rattle.net_build.specs.Logic.{Computes}
@@ -15,8 +15,8 @@ use Rattle.edge_select.proofs.Framed.{tests_more}
 use Rattle.circuit.proofs.Placing.{tests_none, tests_logic, columns_below, rows_below}
 use Rattle.circuit.proofs.Choosing.{choice_kept, choice_taken, choice_tested}
 use Rattle.circuit.proofs.Taking.{own_read, chosen_net_more, chosen_width_more}
-use Rattle.circuit.proofs.Registered.{needed_none, needed_logic, needed_on, needed_tests}
-use Rattle.circuit.specs.Registers.{AllOrNone, IsFixedRead}
+use Rattle.circuit.proofs.Registered.{needed_none, needed_then}
+use Rattle.circuit.specs.Registers.{AsksRead}
 use Rattle.circuit.proofs.choices.with_tap.Goals as goal
 
 -- a fact of offsets that are stored and read back
@@ -136,37 +136,12 @@ returns-in_ok-net-in-Sometimes-clause-choice c first reads inc before =
     c.in_ok-net-in-Sometimes.ensures.logic.includes c.in_ok-test-in-Sometimes.ensures.adds.includes inc c.in_ok-test-in-Sometimes.ensures.test one c.in_ok-net-in-Sometimes.ensures.levels before
 
 pub returns-in-Never-clause-needed : goal.returns-in-Never-clause-needed
-returns-in-Never-clause-needed c = needed_none c.args.b.now c.args.tests.now (IsFixedRead (size_in c.args.reader.now.plan.now) (leaf_at c.args.read.g c.args.steps.now) c.args.read)
+returns-in-Never-clause-needed c = needed_none c.args.b.now c.args.tests.now c.args.reader.now.plan.now (AsksRead c.args.reader.now.image (leaf_at c.args.read.g c.args.steps.now) c.args.read)
 
 pub returns-in-Always-clause-needed : goal.returns-in-Always-clause-needed
-returns-in-Always-clause-needed c = needed_none c.args.b.now c.args.tests.now (IsFixedRead (size_in c.args.reader.now.plan.now) (leaf_at c.args.read.g c.args.steps.now) c.args.read)
+returns-in-Always-clause-needed c = needed_none c.args.b.now c.args.tests.now c.args.reader.now.plan.now (AsksRead c.args.reader.now.image (leaf_at c.args.read.g c.args.steps.now) c.args.read)
 
 pub returns-in_ok-net-in-Sometimes-clause-needed : goal.returns-in_ok-net-in-Sometimes-clause-needed
 returns-in_ok-net-in-Sometimes-clause-needed c =
-    let plan = c.args.reader.now.plan.now in
-    let P = IsFixedRead (size_in c.args.reader.now.plan.now) (leaf_at c.args.read.g c.args.steps.now) c.args.read in
-    needed_on c.chosen_by.new.b c.test_at.new.b c.args.b.now c.test_at.new.tests c.test_at.new.tests c.args.tests.now P P P
-    (needed_tests c.test_at.new.b c.args.b.now c.test_at.new.tests c.args.tests.now P c.in_ok-test-in-Sometimes.ensures.counts (λ fixed. not_fixed (fixed refl)))
-    (needed_logic c.chosen_by.new.b c.test_at.new.b c.test_at.new.tests P c.in_ok-net-in-Sometimes.ensures.logic) (λ fixed. fixed) (λ fixed. fixed)
-  where
-    across : FitsSigned w32 c.args.read.dx
-    across = search rules
-
-    down : FitsSigned w32 c.args.read.dy
-    down = search rules
-
-    not_fixed : AllOrNone (size_in c.args.reader.now.plan.now) (LeadBy (size_in c.args.reader.now.plan.now) c.args.steps.now c.args.read.dx c.args.read.dy) → ⊥
-    not_fixed (inl all) =
-        let plan = c.args.reader.now.plan.now in
-        let here : AllPass c.columns.result c.rows.result (LeadBy (record { width = c.columns.result; height = c.rows.result }) c.args.steps.now c.args.read.dx c.args.read.dy) =
-        subst (λ (w : ℕ). AllPass w c.rows.result (LeadBy (record { width = w; height = c.rows.result }) c.args.steps.now c.args.read.dx c.args.read.dy)) (sym c.columns.ensures)
-        (subst (λ (h : ℕ). AllPass plan.system.stencils.width h (LeadBy (record { width = plan.system.stencils.width; height = h }) c.args.steps.now c.args.read.dx c.args.read.dy)) (sym c.rows.ensures) all) in
-        let always = c.passing.ensures.always.1 (untold (λ (x y : ℤ). AllPass c.columns.result c.rows.result (LeadBy (record { width = c.columns.result; height = c.rows.result }) c.args.steps.now x y)) c.args.read.dx c.args.read.dy across down here) in
-        absurd (let e : ⊥ = cc in e)
-    not_fixed (inr none) =
-        let plan = c.args.reader.now.plan.now in
-        let here : NonePass c.columns.result c.rows.result (LeadBy (record { width = c.columns.result; height = c.rows.result }) c.args.steps.now c.args.read.dx c.args.read.dy) =
-        subst (λ (w : ℕ). NonePass w c.rows.result (LeadBy (record { width = w; height = c.rows.result }) c.args.steps.now c.args.read.dx c.args.read.dy)) (sym c.columns.ensures)
-        (subst (λ (h : ℕ). NonePass plan.system.stencils.width h (LeadBy (record { width = plan.system.stencils.width; height = h }) c.args.steps.now c.args.read.dx c.args.read.dy)) (sym c.rows.ensures) none) in
-        let never = c.passing.ensures.never.1 (untold (λ (x y : ℤ). NonePass c.columns.result c.rows.result (LeadBy (record { width = c.columns.result; height = c.rows.result }) c.args.steps.now x y)) c.args.read.dx c.args.read.dy across down here) in
-        absurd (let e : ⊥ = cc in e)
+    needed_then c.chosen_by.new.b c.test_at.new.b c.args.b.now c.test_at.new.tests c.args.tests.now c.args.reader.now.plan.now (AsksRead c.args.reader.now.image (leaf_at c.args.read.g c.args.steps.now) c.args.read)
+    c.in_ok-test-in-Sometimes.ensures.needed c.in_ok-net-in-Sometimes.ensures.logic

@@ -6,8 +6,8 @@ use Rattle.circuit.proofs.Imaging.{body_before, are_leaves, has_leaves, image_ne
 use Rattle.std.proofs.Common.{List, [], subst}
 use Rattle.edge_select.specs.declared.step.Step.{Step}
 use Rattle.circuit.specs.Leaves.{reads_of, bits_of}
-use Rattle.circuit.proofs.Registered.{needed_logic, needed_on}
-use Rattle.circuit.specs.Registers.{AreFixed, AddsNeeded}
+use Rattle.circuit.proofs.Registered.{needed_by, needed_then}
+use Rattle.circuit.specs.Registers.{Asks, IsAsked, AddsNeeded}
 use Rattle.circuit.proofs.images.body_net.Goals as goal
 
 pub push_leaves-requires-clause-earlier : goal.push_leaves-requires-clause-earlier
@@ -41,9 +41,10 @@ returns-clause-tests c = tests_more c.lower.new.b c.push_leaves.new.b (size_in c
 
 pub returns-clause-needed : goal.returns-clause-needed
 returns-clause-needed c =
-    let plan = c.args.reader.now.plan.now in
-    let f = c.args.reader.now.image in
+    let r = c.args.reader.now in
+    let plan = r.plan.now in
     let e = tree_of c.args.body.now in
-    let P = AreFixed plan f (reads_of e []) (bits_of e []) in
-    let pushed = subst (λ (s : List Step). AddsNeeded c.push_leaves.new.b c.args.b.now c.push_leaves.new.tests c.args.tests.now (AreFixed plan f (reads_of e s) (bits_of e s))) c.new-steps.ensures.items c.in_ok-push_leaves.ensures.needed in
-    needed_on c.lower.new.b c.push_leaves.new.b c.args.b.now c.push_leaves.new.tests c.push_leaves.new.tests c.args.tests.now P P P pushed (needed_logic c.lower.new.b c.push_leaves.new.b c.push_leaves.new.tests P c.lower.ensures.grows) (λ fixed. fixed) (λ fixed. fixed)
+    let pushed = subst (λ (s : List Step). AddsNeeded c.push_leaves.new.b c.args.b.now c.push_leaves.new.tests c.args.tests.now plan (Asks plan r.image (reads_of e s) (bits_of e s))) c.new-steps.ensures.items c.in_ok-push_leaves.ensures.needed in
+    needed_then c.lower.new.b c.push_leaves.new.b c.args.b.now c.push_leaves.new.tests c.args.tests.now plan (IsAsked r.ir.now plan)
+    (needed_by c.push_leaves.new.b c.args.b.now c.push_leaves.new.tests c.args.tests.now plan (Asks plan r.image (reads_of e []) (bits_of e [])) (IsAsked r.ir.now plan) (λ d asks. record { image = r.image; kept = c.requires.reading.kept; body = e; is_body = c.requires.body; asks = asks }) pushed)
+    c.lower.ensures.grows

@@ -1,8 +1,8 @@
 use Rattle.std.proofs.Common.{◌<◌, length, ap, arith}
 use Rattle.circuit.proofs.Placing.{tests_none}
 use Rattle.circuit.proofs.Imaging.{input_net_is, body_at}
-use Rattle.circuit.proofs.Registered.{needed_none, needed_by}
-use Rattle.circuit.specs.Registers.{IsFixedImage}
+use Rattle.circuit.proofs.Registered.{needed_none}
+use Rattle.circuit.specs.Registers.{IsAsked}
 use Rattle.circuit.proofs.images.image_net.Goals as goal
 
 pub returns-then-place-inputs-clause-adds : goal.returns-then-place-inputs-clause-adds
@@ -20,10 +20,4 @@ body_net-requires-clause-body c =
     body_at r.ir.now c.inputs-inputs.result.now c.images.result.now c.inputs-inputs.ensures c.images.ensures r.image c.index-images-place.result c.if-place-inputs.false c.requires.reading.there
 
 pub returns-then-place-inputs-clause-needed : goal.returns-then-place-inputs-clause-needed
-returns-then-place-inputs-clause-needed c = needed_none c.args.b.now c.args.tests.now (IsFixedImage c.args.reader.now.ir.now c.args.reader.now.plan.now c.args.reader.now.image)
-
-pub returns-clause-needed : goal.returns-clause-needed
-returns-clause-needed c =
-    let r = c.args.reader.now in
-    needed_by c.body_net.new.b c.args.b.now c.body_net.new.tests c.args.tests.now _ (IsFixedImage r.ir.now r.plan.now r.image)
-    (λ fixed. fixed _ (body_at r.ir.now c.inputs-inputs.result.now c.images.result.now c.inputs-inputs.ensures c.images.ensures r.image c.index-images-place.result c.if-place-inputs.false c.requires.reading.there)) c.in_ok-net.ensures.needed
+returns-then-place-inputs-clause-needed c = needed_none c.args.b.now c.args.tests.now c.args.reader.now.plan.now (IsAsked c.args.reader.now.ir.now c.args.reader.now.plan.now)

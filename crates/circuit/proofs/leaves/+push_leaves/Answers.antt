@@ -1,6 +1,5 @@
-use Rattle.std.proofs.Common.{◌≡◌, [], ◌∷◌, List, ◌++◌, refl, ap, sym, subst, ◌∙◌, arith, rules, to_z, of_z, w32, FitsSigned}
-use Rattle.std.specs.Prelude.{ℤ, All, Result, Ok, Err, OnOk}
-use Rattle.std.proofs.lemmas.List.Elements.{All-contains}
+use Rattle.std.proofs.Common.{◌≡◌, [], ◌∷◌, List, ◌++◌, ap, sym, subst, ◌∙◌, rules, to_z, of_z, w32, FitsSigned}
+use Rattle.std.specs.Prelude.{ℤ, Result, Ok, Err, OnOk}
 use Rattle.std.proofs.lemmas.Int.{to_z-of_z}
 use Rattle.pointwise_ir.specs.declared.expr.Edge.{Edge}
 use Rattle.pointwise_ir.specs.Trees.{Tree, tree_of, read, shifted, unary, binary, select, convert, scale}
@@ -11,9 +10,8 @@ use Rattle.circuit.specs.Reads.{AddsLeaves}
 use Rattle.circuit.proofs.Lasting.{reading_more}
 use Rattle.circuit.proofs.Leafing.{leaves_on}
 use Rattle.circuit.proofs.Placing.{tests_none, tests_on}
-use Rattle.circuit.proofs.Registered.{needed_none, needed_on, needed_by, fixed_left, fixed_right}
-use Rattle.circuit.specs.Registers.{IsFixedLeaf, IsFixedPart, AreFixed, AddsNeeded}
-use Rattle.wiring.proofs.Lists.{All-left}
+use Rattle.circuit.proofs.Registered.{needed_none, needed_on, needed_by, asks_leaf, asks_parts, asks_left, asks_right}
+use Rattle.circuit.specs.Registers.{AsksLeaf, AsksParts, Asks, AddsNeeded}
 use Rattle.circuit.proofs.leaves.«+push_leaves».Goals as goal
 
 -- a step whose offsets are stored and read back
@@ -141,7 +139,7 @@ returns-in_ok-push_leaves-in-Select-3-clause-leaves t c =
     (Includes-trans two one old c.in_ok-push_leaves-in-Select-2.ensures.adds.includes c.in_ok-push_leaves-in-Select.ensures.adds.includes) both right)
 
 pub returns-in-Constant-clause-needed : goal.returns-in-Constant-clause-needed
-returns-in-Constant-clause-needed t c = needed_none c.args.b.now c.args.tests.now (AreFixed c.args.reader.now.plan.now c.args.reader.now.image (reads_of (tree_of c.args.e.now) c.args.steps.now.items) (bits_of (tree_of c.args.e.now) c.args.steps.now.items))
+returns-in-Constant-clause-needed t c = needed_none c.args.b.now c.args.tests.now c.args.reader.now.plan.now (Asks c.args.reader.now.plan.now c.args.reader.now.image (reads_of (tree_of c.args.e.now) c.args.steps.now.items) (bits_of (tree_of c.args.e.now) c.args.steps.now.items))
 
 pub returns-in_ok-push_leaves-in-Shifted-clause-needed :
     goal.returns-in_ok-push_leaves-in-Shifted-clause-needed
@@ -156,11 +154,11 @@ returns-in_ok-push_leaves-in-Shifted-clause-needed t c =
     let steps : List Step = with_step here edge dx dy in
     let pushed = stepped here c.push.new.self.items edge dx dy (search rules) (search rules) (c.in_ok-push-in-Shifted.ensures.items ∙ ap (λ (s : Step). here ++ s ∷ []) c.step_by.ensures) in
     let is : tree_of c.args.e.now ≡ shifted edge dx dy body = ap tree_of c.in-Shifted.is ∙ ap (λ a. shifted edge dx dy (tree_of a)) (sym c.deref-in-Shifted.ensures) in
-    let one = subst (λ (s : List Step). AddsNeeded c.push_test.new.b c.args.b.now c.push_test.new.tests c.args.tests.now (All (IsFixedPart plan) (own_bit edge s))) (c.deref.ensures.value ∙ pushed) c.in_ok-push_test-in-Shifted.ensures.needed in
-    let other = subst (λ (s : List Step). AddsNeeded c.push_leaves.new.b c.push_test.new.b c.push_leaves.new.tests c.push_test.new.tests (AreFixed plan f (reads_of body s) (bits_of body s))) pushed c.in_ok-push_leaves-in-Shifted.ensures.needed in
-    subst (λ (e : Tree). AddsNeeded c.push_leaves.new.b c.args.b.now c.push_leaves.new.tests c.args.tests.now (AreFixed plan f (reads_of e here) (bits_of e here))) (sym is)
-    (needed_on c.push_leaves.new.b c.push_test.new.b c.args.b.now c.push_leaves.new.tests c.push_test.new.tests c.args.tests.now (All (IsFixedPart plan) (own_bit edge steps)) (AreFixed plan f (reads_of body steps) (bits_of body steps)) (AreFixed plan f (reads_of (shifted edge dx dy body) here) (bits_of (shifted edge dx dy body) here)) one other
-    (λ fixed. All-left (IsFixedPart plan) (own_bit edge steps) (bits_of body steps) fixed.1) (λ fixed. fixed_right plan f [] (reads_of body steps) (own_bit edge steps) (bits_of body steps) fixed))
+    let one = subst (λ (s : List Step). AddsNeeded c.push_test.new.b c.args.b.now c.push_test.new.tests c.args.tests.now plan (AsksParts f (own_bit edge s))) (c.deref.ensures.value ∙ pushed) c.in_ok-push_test-in-Shifted.ensures.needed in
+    let other = subst (λ (s : List Step). AddsNeeded c.push_leaves.new.b c.push_test.new.b c.push_leaves.new.tests c.push_test.new.tests plan (Asks plan f (reads_of body s) (bits_of body s))) pushed c.in_ok-push_leaves-in-Shifted.ensures.needed in
+    subst (λ (e : Tree). AddsNeeded c.push_leaves.new.b c.args.b.now c.push_leaves.new.tests c.args.tests.now plan (Asks plan f (reads_of e here) (bits_of e here))) (sym is)
+    (needed_on c.push_leaves.new.b c.push_test.new.b c.args.b.now c.push_leaves.new.tests c.push_test.new.tests c.args.tests.now plan (AsksParts f (own_bit edge steps)) (Asks plan f (reads_of body steps) (bits_of body steps)) (Asks plan f (reads_of (shifted edge dx dy body) here) (bits_of (shifted edge dx dy body) here)) one other
+    (asks_parts plan f (reads_of body steps) (own_bit edge steps) (bits_of body steps)) (asks_right plan f [] (reads_of body steps) (own_bit edge steps) (bits_of body steps)))
 
 pub returns-in_ok-push_leaves-in-Binary-2-clause-needed :
     goal.returns-in_ok-push_leaves-in-Binary-2-clause-needed
@@ -172,10 +170,10 @@ returns-in_ok-push_leaves-in-Binary-2-clause-needed t c =
     let right = tree_of c.deref-in-Binary-2.result.now in
     let here = c.args.steps.now.items in
     let is : tree_of c.args.e.now ≡ binary op left right = ap tree_of c.in-Binary.is ∙ ap (λ a. binary op (tree_of a) (tree_of c.in-Binary.right.value)) (sym c.deref-in-Binary.ensures) ∙ ap (λ a. binary op left (tree_of a)) (sym c.deref-in-Binary-2.ensures) in
-    let other = subst (λ (s : List Step). AddsNeeded c.push_leaves-in-Binary-2.new.b c.push_leaves-in-Binary.new.b c.push_leaves-in-Binary-2.new.tests c.push_leaves-in-Binary.new.tests (AreFixed plan f (reads_of right s) (bits_of right s))) c.in_ok-push_leaves-in-Binary.ensures.steps c.in_ok-push_leaves-in-Binary-2.ensures.needed in
-    subst (λ (e : Tree). AddsNeeded c.push_leaves-in-Binary-2.new.b c.args.b.now c.push_leaves-in-Binary-2.new.tests c.args.tests.now (AreFixed plan f (reads_of e here) (bits_of e here))) (sym is)
-    (needed_on c.push_leaves-in-Binary-2.new.b c.push_leaves-in-Binary.new.b c.args.b.now c.push_leaves-in-Binary-2.new.tests c.push_leaves-in-Binary.new.tests c.args.tests.now (AreFixed plan f (reads_of left here) (bits_of left here)) (AreFixed plan f (reads_of right here) (bits_of right here)) (AreFixed plan f (reads_of (binary op left right) here) (bits_of (binary op left right) here)) c.in_ok-push_leaves-in-Binary.ensures.needed other
-    (λ fixed. fixed_left plan f (reads_of left here) (reads_of right here) (bits_of left here) (bits_of right here) fixed) (λ fixed. fixed_right plan f (reads_of left here) (reads_of right here) (bits_of left here) (bits_of right here) fixed))
+    let other = subst (λ (s : List Step). AddsNeeded c.push_leaves-in-Binary-2.new.b c.push_leaves-in-Binary.new.b c.push_leaves-in-Binary-2.new.tests c.push_leaves-in-Binary.new.tests plan (Asks plan f (reads_of right s) (bits_of right s))) c.in_ok-push_leaves-in-Binary.ensures.steps c.in_ok-push_leaves-in-Binary-2.ensures.needed in
+    subst (λ (e : Tree). AddsNeeded c.push_leaves-in-Binary-2.new.b c.args.b.now c.push_leaves-in-Binary-2.new.tests c.args.tests.now plan (Asks plan f (reads_of e here) (bits_of e here))) (sym is)
+    (needed_on c.push_leaves-in-Binary-2.new.b c.push_leaves-in-Binary.new.b c.args.b.now c.push_leaves-in-Binary-2.new.tests c.push_leaves-in-Binary.new.tests c.args.tests.now plan (Asks plan f (reads_of left here) (bits_of left here)) (Asks plan f (reads_of right here) (bits_of right here)) (Asks plan f (reads_of (binary op left right) here) (bits_of (binary op left right) here)) c.in_ok-push_leaves-in-Binary.ensures.needed other
+    (asks_left plan f (reads_of left here) (reads_of right here) (bits_of left here) (bits_of right here)) (asks_right plan f (reads_of left here) (reads_of right here) (bits_of left here) (bits_of right here)))
 
 pub returns-in_ok-push_leaves-in-Select-3-clause-needed :
     goal.returns-in_ok-push_leaves-in-Select-3-clause-needed
@@ -190,15 +188,15 @@ returns-in_ok-push_leaves-in-Select-3-clause-needed t c =
     ap tree_of c.in-Select.is ∙ ap (λ a. select (tree_of a) (tree_of c.in-Select.first.value) (tree_of c.in-Select.second.value)) (sym c.deref-in-Select.ensures)
     ∙ ap (λ a. select condition (tree_of a) (tree_of c.in-Select.second.value)) (sym c.deref-in-Select-2.ensures) ∙ ap (λ a. select condition first (tree_of a)) (sym c.deref-in-Select-3.ensures)
     in
-    let left = subst (λ (s : List Step). AddsNeeded c.push_leaves-in-Select-2.new.b c.push_leaves-in-Select.new.b c.push_leaves-in-Select-2.new.tests c.push_leaves-in-Select.new.tests (AreFixed plan f (reads_of first s) (bits_of first s))) c.in_ok-push_leaves-in-Select.ensures.steps c.in_ok-push_leaves-in-Select-2.ensures.needed in
-    let right = subst (λ (s : List Step). AddsNeeded c.push_leaves-in-Select-3.new.b c.push_leaves-in-Select-2.new.b c.push_leaves-in-Select-3.new.tests c.push_leaves-in-Select-2.new.tests (AreFixed plan f (reads_of second s) (bits_of second s))) (c.in_ok-push_leaves-in-Select-2.ensures.steps ∙ c.in_ok-push_leaves-in-Select.ensures.steps) c.in_ok-push_leaves-in-Select-3.ensures.needed in
+    let left = subst (λ (s : List Step). AddsNeeded c.push_leaves-in-Select-2.new.b c.push_leaves-in-Select.new.b c.push_leaves-in-Select-2.new.tests c.push_leaves-in-Select.new.tests plan (Asks plan f (reads_of first s) (bits_of first s))) c.in_ok-push_leaves-in-Select.ensures.steps c.in_ok-push_leaves-in-Select-2.ensures.needed in
+    let right = subst (λ (s : List Step). AddsNeeded c.push_leaves-in-Select-3.new.b c.push_leaves-in-Select-2.new.b c.push_leaves-in-Select-3.new.tests c.push_leaves-in-Select-2.new.tests plan (Asks plan f (reads_of second s) (bits_of second s))) (c.in_ok-push_leaves-in-Select-2.ensures.steps ∙ c.in_ok-push_leaves-in-Select.ensures.steps) c.in_ok-push_leaves-in-Select-3.ensures.needed in
     let rs = reads_of condition here ++ reads_of first here in
     let ps = bits_of condition here ++ bits_of first here in
-    let both = needed_on c.push_leaves-in-Select-2.new.b c.push_leaves-in-Select.new.b c.args.b.now c.push_leaves-in-Select-2.new.tests c.push_leaves-in-Select.new.tests c.args.tests.now (AreFixed plan f (reads_of condition here) (bits_of condition here)) (AreFixed plan f (reads_of first here) (bits_of first here)) (AreFixed plan f (reads_of condition here ++ reads_of first here) (bits_of condition here ++ bits_of first here)) c.in_ok-push_leaves-in-Select.ensures.needed left
-    (λ fixed. fixed_left plan f (reads_of condition here) (reads_of first here) (bits_of condition here) (bits_of first here) fixed) (λ fixed. fixed_right plan f (reads_of condition here) (reads_of first here) (bits_of condition here) (bits_of first here) fixed) in
-    subst (λ (e : Tree). AddsNeeded c.push_leaves-in-Select-3.new.b c.args.b.now c.push_leaves-in-Select-3.new.tests c.args.tests.now (AreFixed plan f (reads_of e here) (bits_of e here))) (sym is)
-    (needed_on c.push_leaves-in-Select-3.new.b c.push_leaves-in-Select-2.new.b c.args.b.now c.push_leaves-in-Select-3.new.tests c.push_leaves-in-Select-2.new.tests c.args.tests.now (AreFixed plan f rs ps) (AreFixed plan f (reads_of second here) (bits_of second here)) (AreFixed plan f (reads_of (select condition first second) here) (bits_of (select condition first second) here)) both right
-    (λ fixed. fixed_left plan f rs (reads_of second here) ps (bits_of second here) fixed) (λ fixed. fixed_right plan f rs (reads_of second here) ps (bits_of second here) fixed))
+    let both = needed_on c.push_leaves-in-Select-2.new.b c.push_leaves-in-Select.new.b c.args.b.now c.push_leaves-in-Select-2.new.tests c.push_leaves-in-Select.new.tests c.args.tests.now plan (Asks plan f (reads_of condition here) (bits_of condition here)) (Asks plan f (reads_of first here) (bits_of first here)) (Asks plan f (reads_of condition here ++ reads_of first here) (bits_of condition here ++ bits_of first here)) c.in_ok-push_leaves-in-Select.ensures.needed left
+    (asks_left plan f (reads_of condition here) (reads_of first here) (bits_of condition here) (bits_of first here)) (asks_right plan f (reads_of condition here) (reads_of first here) (bits_of condition here) (bits_of first here)) in
+    subst (λ (e : Tree). AddsNeeded c.push_leaves-in-Select-3.new.b c.args.b.now c.push_leaves-in-Select-3.new.tests c.args.tests.now plan (Asks plan f (reads_of e here) (bits_of e here))) (sym is)
+    (needed_on c.push_leaves-in-Select-3.new.b c.push_leaves-in-Select-2.new.b c.args.b.now c.push_leaves-in-Select-3.new.tests c.push_leaves-in-Select-2.new.tests c.args.tests.now plan (Asks plan f rs ps) (Asks plan f (reads_of second here) (bits_of second here)) (Asks plan f (reads_of (select condition first second) here) (bits_of (select condition first second) here)) both right
+    (asks_left plan f rs (reads_of second here) ps (bits_of second here)) (asks_right plan f rs (reads_of second here) ps (bits_of second here)))
 
 pub returns-in-Unary-clause-needed : goal.returns-in-Unary-clause-needed
 returns-in-Unary-clause-needed t c =
@@ -206,7 +204,7 @@ returns-in-Unary-clause-needed t c =
     let f = c.args.reader.now.image in
     let here = c.args.steps.now.items in
     let is = ap tree_of c.in-Unary.is ∙ ap (λ a. unary c.in-Unary.field-0 (tree_of a)) (sym c.deref-in-Unary.ensures) in
-    subst (λ (e : Tree). OnOk c.push_leaves-in-Unary.result (AddsNeeded c.push_leaves-in-Unary.new.b c.args.b.now c.push_leaves-in-Unary.new.tests c.args.tests.now (AreFixed plan f (reads_of e here) (bits_of e here)))) (sym is) c.push_leaves-in-Unary.ensures.needed
+    subst (λ (e : Tree). OnOk c.push_leaves-in-Unary.result (AddsNeeded c.push_leaves-in-Unary.new.b c.args.b.now c.push_leaves-in-Unary.new.tests c.args.tests.now plan (Asks plan f (reads_of e here) (bits_of e here)))) (sym is) c.push_leaves-in-Unary.ensures.needed
 
 pub returns-in-Convert-clause-needed : goal.returns-in-Convert-clause-needed
 returns-in-Convert-clause-needed t c =
@@ -214,7 +212,7 @@ returns-in-Convert-clause-needed t c =
     let f = c.args.reader.now.image in
     let here = c.args.steps.now.items in
     let is = ap tree_of c.in-Convert.is ∙ ap (λ a. convert c.in-Convert.field-0 (tree_of a) c.in-Convert.field-2) (sym c.deref-in-Convert.ensures) in
-    subst (λ (e : Tree). OnOk c.push_leaves-in-Convert.result (AddsNeeded c.push_leaves-in-Convert.new.b c.args.b.now c.push_leaves-in-Convert.new.tests c.args.tests.now (AreFixed plan f (reads_of e here) (bits_of e here)))) (sym is) c.push_leaves-in-Convert.ensures.needed
+    subst (λ (e : Tree). OnOk c.push_leaves-in-Convert.result (AddsNeeded c.push_leaves-in-Convert.new.b c.args.b.now c.push_leaves-in-Convert.new.tests c.args.tests.now plan (Asks plan f (reads_of e here) (bits_of e here)))) (sym is) c.push_leaves-in-Convert.ensures.needed
 
 pub returns-in-Scale-clause-needed : goal.returns-in-Scale-clause-needed
 returns-in-Scale-clause-needed t c =
@@ -222,7 +220,7 @@ returns-in-Scale-clause-needed t c =
     let f = c.args.reader.now.image in
     let here = c.args.steps.now.items in
     let is = ap tree_of c.in-Scale.is ∙ ap (λ a. scale c.in-Scale.field-0 (tree_of a) c.in-Scale.field-2) (sym c.deref-in-Scale.ensures) in
-    subst (λ (e : Tree). OnOk c.push_leaves-in-Scale.result (AddsNeeded c.push_leaves-in-Scale.new.b c.args.b.now c.push_leaves-in-Scale.new.tests c.args.tests.now (AreFixed plan f (reads_of e here) (bits_of e here)))) (sym is) c.push_leaves-in-Scale.ensures.needed
+    subst (λ (e : Tree). OnOk c.push_leaves-in-Scale.result (AddsNeeded c.push_leaves-in-Scale.new.b c.args.b.now c.push_leaves-in-Scale.new.tests c.args.tests.now plan (Asks plan f (reads_of e here) (bits_of e here)))) (sym is) c.push_leaves-in-Scale.ensures.needed
 
 -- a fact of an Ok from another
 on_ok : {T E : Type 0} (r : Result T E) (P Q : Type 0) → (P → Q) → OnOk r P → OnOk r Q
@@ -241,7 +239,7 @@ returns-in-Read-clause-needed t c =
     let leaf = leaf_at c.in-Read.g (with_step c.args.steps.now.items c.in-Read.edge c.in-Read.dx c.in-Read.dy) in
     let stepped_here = stepped here (here ++ c.step_by-step.result ∷ []) edge dx dy (search rules) (search rules) (ap (λ (s : Step). here ++ s ∷ []) c.step_by-step.ensures) in
     let is : tree_of c.args.e.now ≡ read edge g dx dy = ap tree_of c.in-Read.is in
-    subst (λ (e : Tree). OnOk c.push_read.result (AddsNeeded c.push_read.new.b c.args.b.now c.push_read.new.tests c.args.tests.now (AreFixed plan f (reads_of e here) (bits_of e here)))) (sym is)
-    (on_ok c.push_read.result (AddsNeeded c.push_read.new.b c.args.b.now c.push_read.new.tests c.args.tests.now (IsFixedLeaf plan f leaf)) (AddsNeeded c.push_read.new.b c.args.b.now c.push_read.new.tests c.args.tests.now (AreFixed plan f (leaf ∷ []) []))
-    (needed_by c.push_read.new.b c.args.b.now c.push_read.new.tests c.args.tests.now (IsFixedLeaf plan f leaf) (AreFixed plan f (leaf ∷ []) []) (λ fixed. All-contains (IsFixedLeaf plan f) (leaf ∷ []) leaf fixed.0 (0, omega arith, refl)))
-    (subst (λ (steps : List Step). OnOk c.push_read.result (AddsNeeded c.push_read.new.b c.args.b.now c.push_read.new.tests c.args.tests.now (IsFixedLeaf plan f (leaf_at g steps)))) stepped_here c.push_read.ensures.needed))
+    subst (λ (e : Tree). OnOk c.push_read.result (AddsNeeded c.push_read.new.b c.args.b.now c.push_read.new.tests c.args.tests.now plan (Asks plan f (reads_of e here) (bits_of e here)))) (sym is)
+    (on_ok c.push_read.result (AddsNeeded c.push_read.new.b c.args.b.now c.push_read.new.tests c.args.tests.now plan (AsksLeaf plan f leaf)) (AddsNeeded c.push_read.new.b c.args.b.now c.push_read.new.tests c.args.tests.now plan (Asks plan f (leaf ∷ []) []))
+    (needed_by c.push_read.new.b c.args.b.now c.push_read.new.tests c.args.tests.now plan (AsksLeaf plan f leaf) (Asks plan f (leaf ∷ []) []) (asks_leaf plan f leaf))
+    (subst (λ (steps : List Step). OnOk c.push_read.result (AddsNeeded c.push_read.new.b c.args.b.now c.push_read.new.tests c.args.tests.now plan (AsksLeaf plan f (leaf_at g steps)))) stepped_here c.push_read.ensures.needed))

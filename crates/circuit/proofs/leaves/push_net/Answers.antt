@@ -5,7 +5,7 @@ use Rattle.circuit.specs.Known.{IsKnownNet}
 use Rattle.circuit.proofs.Leafing.{leaves_known}
 use Rattle.circuit.proofs.Placing.{tests_none}
 use Rattle.circuit.proofs.Registered.{needed_none}
-use Rattle.circuit.specs.Registers.{IsFixedLeaf}
+use Rattle.circuit.specs.Registers.{AsksLeaf}
 use Rattle.circuit.proofs.leaves.push_net.Goals as goal
 
 pub returns-in_ok-push-in-Some-clause-adds : goal.returns-in_ok-push-in-Some-clause-adds
@@ -20,4 +20,4 @@ returns-in_ok-push-in-Some-clause-leaves c =
     leaves_known r.ir.now r.plan.now r.taps.now r.image c.args.b.now now before (leaf_at c.args.leaf.image c.args.leaf.steps.now) c.in-Some.net c.in_ok-push-in-Some.ensures.items refl refl is
 
 pub returns-in_ok-push-in-Some-clause-needed : goal.returns-in_ok-push-in-Some-clause-needed
-returns-in_ok-push-in-Some-clause-needed c = needed_none c.args.b.now c.args.tests.now (IsFixedLeaf c.args.reader.now.plan.now c.args.reader.now.image (leaf_at c.args.leaf.image c.args.leaf.steps.now))
+returns-in_ok-push-in-Some-clause-needed c = needed_none c.args.b.now c.args.tests.now c.args.reader.now.plan.now (AsksLeaf c.args.reader.now.plan.now c.args.reader.now.image (leaf_at c.args.leaf.image c.args.leaf.steps.now))

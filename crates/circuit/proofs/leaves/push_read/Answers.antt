@@ -2,7 +2,7 @@ use Rattle.std.proofs.Common.{List, [], ◌∷◌, subst, ◌∙◌}
 use Rattle.edge_select.specs.declared.step.Step.{Step}
 use Rattle.circuit.specs.Leaves.{leaf_at}
 use Rattle.circuit.specs.Reads.{AddsLeaves}
-use Rattle.circuit.specs.Registers.{IsFixedLeaf, AddsNeeded}
+use Rattle.circuit.specs.Registers.{AsksLeaf, AddsNeeded}
 use Rattle.circuit.proofs.leaves.push_read.Goals as goal
 
 pub returns-clause-leaves : goal.returns-clause-leaves
@@ -13,4 +13,4 @@ returns-clause-leaves c =
 pub returns-clause-needed : goal.returns-clause-needed
 returns-clause-needed c =
     let r = c.args.reader.now in
-    subst (λ (steps : List Step). AddsNeeded c.push_net.new.b c.args.b.now c.push_net.new.tests c.args.tests.now (IsFixedLeaf r.plan.now r.image (leaf_at c.args.read.image steps))) (c.deref.ensures.value ∙ c.in_ok-push.ensures.items) c.in_ok-push_net.ensures.needed
+    subst (λ (steps : List Step). AddsNeeded c.push_net.new.b c.args.b.now c.push_net.new.tests c.args.tests.now r.plan.now (AsksLeaf r.plan.now r.image (leaf_at c.args.read.image steps))) (c.deref.ensures.value ∙ c.in_ok-push.ensures.items) c.in_ok-push_net.ensures.needed

@@ -1,6 +1,4 @@
-use Rattle.std.proofs.Common.{[], ◌∷◌, refl, sym, subst, arith}
-use Rattle.std.specs.Prelude.{All}
-use Rattle.std.proofs.lemmas.List.Elements.{All-contains}
+use Rattle.std.proofs.Common.{[], refl, sym, subst, arith}
 use Rattle.pointwise_ir.specs.declared.expr.Edge.{Edge}
 use Rattle.circuit.specs.declared.known.BodyLeaves.{BodyLeaves}
 use Rattle.circuit.specs.Leaves.{own_bit}
@@ -8,7 +6,7 @@ use Rattle.circuit.specs.Reads.{AddsLeaves}
 use Rattle.circuit.proofs.Leafing.{leaves_bit}
 use Rattle.circuit.proofs.Placing.{tests_none}
 use Rattle.circuit.proofs.Registered.{needed_none, needed_by}
-use Rattle.circuit.specs.Registers.{IsFixedPart}
+use Rattle.circuit.specs.Registers.{AsksPart, AsksParts}
 use Rattle.circuit.proofs.leaves.push_test.Goals as goal
 
 pub returns-in-Clamp-clause-adds : goal.returns-in-Clamp-clause-adds
@@ -24,11 +22,11 @@ returns-in_ok-push-in-Zero-clause-leaves c =
     (leaves_bit r.ir.now r.plan.now r.taps.now r.image b c.args.b.now now c.args.leaves.now steps c.in_ok-net-in-Zero.net c.in_ok-net-in-Zero.ensures.adds.includes refl c.in_ok-push-in-Zero.ensures.items refl c.in_ok-net-in-Zero.ensures.test)
 
 pub returns-in-Clamp-clause-needed : goal.returns-in-Clamp-clause-needed
-returns-in-Clamp-clause-needed c = needed_none c.args.b.now c.args.tests.now (All (IsFixedPart c.args.reader.now.plan.now) (own_bit c.args.edge c.args.steps.now))
+returns-in-Clamp-clause-needed c = needed_none c.args.b.now c.args.tests.now c.args.reader.now.plan.now (AsksParts c.args.reader.now.image (own_bit c.args.edge c.args.steps.now))
 
 pub returns-in_ok-push-in-Zero-clause-needed : goal.returns-in_ok-push-in-Zero-clause-needed
 returns-in_ok-push-in-Zero-clause-needed c =
-    let plan = c.args.reader.now.plan.now in
+    let r = c.args.reader.now in
     let steps = c.args.steps.now in
-    needed_by c.test_on.new.b c.args.b.now c.test_on.new.tests c.args.tests.now (IsFixedPart plan steps) (All (IsFixedPart plan) (own_bit c.args.edge steps))
-    (λ all. All-contains (IsFixedPart plan) (steps ∷ []) steps (subst (λ (e : Edge). All (IsFixedPart plan) (own_bit e steps)) c.in-Zero.is all) (0, omega arith, refl)) c.in_ok-net-in-Zero.ensures.needed
+    needed_by c.test_on.new.b c.args.b.now c.test_on.new.tests c.args.tests.now r.plan.now (AsksPart r.image steps) (AsksParts r.image (own_bit c.args.edge steps))
+    (λ d asks. subst (λ (e : Edge). AsksParts r.image (own_bit e steps) d) (sym c.in-Zero.is) (steps, (0, omega arith, refl), asks)) c.in_ok-net-in-Zero.ensures.needed

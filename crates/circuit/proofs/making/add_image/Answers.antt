@@ -54,9 +54,7 @@ add-requires-clause-turns g c = turns_more c.image_net.new.b c.args.b.now c.args
 pub returns-clause-registers : goal.returns-clause-registers
 returns-clause-registers g c =
     let plan = c.args.plan.now in
-    let p = c.args.ir.now in
     let i = slice_index_or c.images.result.now c.args.k none in
     let form = g.F.BufferForm.form c.args.form.now in
-    let kept = next_kept c.args.b.now p plan form c.args.k c.args.images.now.nets.items c.args.images.now.taps.items i c.law.ensures c.requires.stencils (image_at plan.system.stencils.images c.images.result.now c.args.k none c.images.ensures c.requires.within) c.requires.built.built in
-    registers_more c.add.new.b c.image_net.new.b c.args.b.now p plan i.number form.long (form.shapes plan i.number) c.add.new.turns c.args.images.now.turns c.image_net.new.tests c.args.images.now.tests
-    c.in_ok-net.ensures.adds.arrays c.in_ok-own.ensures.buffered.adds.arrays (λ no. no i.number kept) c.in_ok-net.ensures.needed c.in_ok-own.ensures.counts c.requires.registers
+    registers_more c.add.new.b c.image_net.new.b c.args.b.now c.args.ir.now plan form.long (form.shapes plan i.number) c.add.new.turns c.args.images.now.turns c.image_net.new.tests c.args.images.now.tests
+    c.in_ok-net.ensures.adds.arrays c.in_ok-own.ensures.buffered.adds.arrays c.in_ok-net.ensures.needed c.in_ok-own.ensures.counts c.requires.registers

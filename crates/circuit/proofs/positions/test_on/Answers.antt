@@ -1,4 +1,4 @@
-use Rattle.std.proofs.Common.{subst, sym, inl, inr}
+use Rattle.std.proofs.Common.{subst}
 use Rattle.std.specs.Prelude.{ℕ}
 use Rattle.edge_select.specs.Steps.{LeadOn}
 use Rattle.edge_select.specs.Pixels.{AllPass, NonePass}
@@ -6,8 +6,8 @@ use Rattle.edge_select.proofs.Beside.{beside_logic}
 use Rattle.edge_select.proofs.Framed.{tests_more}
 use Rattle.circuit.specs.Taps.{size_in}
 use Rattle.circuit.proofs.Placing.{always_test, never_test}
-use Rattle.circuit.proofs.Registered.{needed_logic, needed_tests}
-use Rattle.circuit.specs.Registers.{IsFixedPart}
+use Rattle.circuit.proofs.Registered.{needed_logic}
+use Rattle.circuit.specs.Registers.{AsksPart}
 use Rattle.circuit.proofs.positions.test_on.Goals as goal
 
 pub returns-in_ok-net-in-Always-clause-adds : goal.returns-in_ok-net-in-Always-clause-adds
@@ -41,22 +41,7 @@ returns-in_ok-net-in-Never-clause-test c =
     never_test c.constant_test-in-Never.new.b c.args.b.now plan c.args.f _ c.in_ok-net-in-Never.net c.law.ensures c.in_ok-net-in-Never.ensures.test c.in_ok-net-in-Never.ensures.depth here
 
 pub returns-in_ok-net-in-Always-clause-needed : goal.returns-in_ok-net-in-Always-clause-needed
-returns-in_ok-net-in-Always-clause-needed c = needed_logic c.constant_test.new.b c.args.b.now c.args.tests.now (IsFixedPart c.args.plan.now c.args.steps.now) c.in_ok-net-in-Always.ensures.logic
+returns-in_ok-net-in-Always-clause-needed c = needed_logic c.constant_test.new.b c.args.b.now c.args.tests.now c.args.plan.now (AsksPart c.args.f c.args.steps.now) c.in_ok-net-in-Always.ensures.logic
 
 pub returns-in_ok-net-in-Never-clause-needed : goal.returns-in_ok-net-in-Never-clause-needed
-returns-in_ok-net-in-Never-clause-needed c = needed_logic c.constant_test-in-Never.new.b c.args.b.now c.args.tests.now (IsFixedPart c.args.plan.now c.args.steps.now) c.in_ok-net-in-Never.ensures.logic
-
-pub returns-in_ok-net-in-Sometimes-clause-needed : goal.returns-in_ok-net-in-Sometimes-clause-needed
-returns-in_ok-net-in-Sometimes-clause-needed c = needed_tests c.test_leads.new.b c.args.b.now c.test_leads.new.tests c.args.tests.now (IsFixedPart c.args.plan.now c.args.steps.now) c.in_ok-net-in-Sometimes.ensures.counts not_fixed
-  where
-    not_fixed : IsFixedPart c.args.plan.now c.args.steps.now → ⊥
-    not_fixed (inl all) =
-        let here = subst (λ (w : ℕ). AllPass w c.rows.result (LeadOn (record { width = w; height = c.rows.result }) c.args.steps.now)) (sym c.columns.ensures)
-        (subst (λ (h : ℕ). AllPass c.args.plan.now.system.stencils.width h (LeadOn (record { width = c.args.plan.now.system.stencils.width; height = h }) c.args.steps.now)) (sym c.rows.ensures) all) in
-        let always = c.leading.ensures.always.1 here in
-        absurd (let e : ⊥ = cc in e)
-    not_fixed (inr none) =
-        let here = subst (λ (w : ℕ). NonePass w c.rows.result (LeadOn (record { width = w; height = c.rows.result }) c.args.steps.now)) (sym c.columns.ensures)
-        (subst (λ (h : ℕ). NonePass c.args.plan.now.system.stencils.width h (LeadOn (record { width = c.args.plan.now.system.stencils.width; height = h }) c.args.steps.now)) (sym c.rows.ensures) none) in
-        let never = c.leading.ensures.never.1 here in
-        absurd (let e : ⊥ = cc in e)
+returns-in_ok-net-in-Never-clause-needed c = needed_logic c.constant_test-in-Never.new.b c.args.b.now c.args.tests.now c.args.plan.now (AsksPart c.args.f c.args.steps.now) c.in_ok-net-in-Never.ensures.logic

@@ -1,4 +1,4 @@
-use Rattle.std.proofs.Common.{List, refl, Some, subst, sym}
+use Rattle.std.proofs.Common.{List, refl, Some, subst, sym, ◌≡◌}
 use Rattle.dk_base.specs.Frames.{Size}
 use Rattle.dk_base.specs.FrameSizes.{size_of}
 use Rattle.edge_select.specs.declared.frame_tests.Test.{Test}
@@ -8,6 +8,7 @@ use Rattle.edge_select.proofs.Beside.{beside_none, beside_on}
 use Rattle.edge_select.proofs.Framed.{tests_more, counters_more, own_size, with_column}
 use Rattle.net_build.proofs.Parts.{includes_on}
 use Rattle.edge_select.proofs.Bits.{counts_column}
+use Rattle.edge_select.proofs.Asked.{only_same, only_column}
 use Rattle.edge_select.proofs.frame_tests.column_test.Goals as goal
 
 pub column_register-requires-clause-counters : goal.column_register-requires-clause-counters
@@ -37,3 +38,10 @@ returns-clause-tests c =
     (counters_more c.column_register.new.b c.counters_of.new.b size c.in_ok-counters.counters c.in_ok-net.ensures.adds.includes c.in_ok-counters.ensures.counters)
     (subst (λ (z : Size). IsColumnTest c.column_register.new.b z (record { start = 0; band = c.args.band; net = c.in_ok-net.net })) c.in_ok-counters.ensures.counters.size_is c.in_ok-net.ensures.test) (record { start = refl; band = c.requires.divides })
     (subst (λ (ts : List Test). HasNone ts 0 c.args.band) c.deref.ensures.value c.in_default.ensures.none)
+
+pub returns-in-Some-clause-only : goal.returns-in-Some-clause-only
+returns-in-Some-clause-only c = only_same c.args.tests.now (λ t. t.band ≡ c.args.band) (λ t. ⊥)
+
+pub returns-clause-only : goal.returns-clause-only
+returns-clause-only c =
+    only_column (record { size = c.args.tests.now.size; counters = Some c.in_ok-counters.counters; columns = c.push.new.self; rows = c.args.tests.now.rows }) c.args.tests.now (λ t. t.band ≡ c.args.band) (λ t. ⊥) (record { start = 0; band = c.args.band; net = c.in_ok-net.net }) c.in_ok-push.ensures.items refl refl

@@ -1,4 +1,4 @@
-use Rattle.std.proofs.Common.{[], ◌∷◌, ℕ, ◌%◌, ◌/◌, ap, subst, ◌∙◌}
+use Rattle.std.proofs.Common.{[], ◌∷◌, ℕ, ◌%◌, ◌/◌, ap, subst, ◌∙◌, ◌≡◌}
 use Rattle.dk_base.specs.FrameSizes.{size_of}
 use Rattle.edge_select.specs.declared.bands.Band.{Band}
 use Rattle.edge_select.specs.FrameTests.{IsRowTest}
@@ -9,6 +9,9 @@ use Rattle.edge_select.proofs.Everywhere.{not_all}
 use Rattle.edge_select.proofs.Differing.{band_divides}
 use Rattle.net_build.specs.Control.{is_control}
 use Rattle.edge_select.proofs.Depth.{one_within, depth_over}
+use Rattle.frame_paths.specs.Moves.{IsIn}
+use Rattle.edge_select.specs.Asked.{SeparatesRows}
+use Rattle.edge_select.proofs.Asked.{only_same, only_by, separates_rows}
 use Rattle.edge_select.proofs.frame_tests.down_test.Goals as goal
 
 pub returns-then-is_whole-clause-adds : goal.returns-then-is_whole-clause-adds
@@ -40,3 +43,13 @@ returns-clause-registers c = counts_logic c.turned.new.b c.row_test.new.b c.args
 
 pub returns-clause-none : goal.returns-clause-none
 returns-clause-none c all = absurd (not_all c.args.tests.now.size.height c.args.interval c.is_whole.result c.args.tests.now.size.sides.some_rows c.is_whole.ensures.1 c.if-is_whole.false all)
+
+pub returns-then-is_whole-clause-only : goal.returns-then-is_whole-clause-only
+returns-then-is_whole-clause-only c = only_same c.args.tests.now (λ t. ⊥) (SeparatesRows (size_of c.args.tests.now.size) c.args.delay (IsIn c.args.interval))
+
+pub returns-clause-only : goal.returns-clause-only
+returns-clause-only c =
+    let size = size_of c.args.tests.now.size in
+    only_by c.row_test.new.tests c.args.tests.now (λ t. ⊥) (λ t. (t.start ≡ c.args.delay % c.from-width.result) × (t.band ≡ c.interval_of.result)) (λ t. ⊥) (SeparatesRows size c.args.delay (IsIn c.args.interval)) (λ t no. no)
+    (λ t is. separates_rows size c.args.tests.now.size.sides.some_columns c.args.tests.now.size.sides.some_rows c.args.delay _ (IsIn c.args.interval) c.moved-band.result t
+    (ap (λ (w : ℕ). c.args.delay / w % c.from.result) c.from-width.ensures ∙ ap (λ (h : ℕ). c.args.delay / c.args.tests.now.size.width % h) c.from.ensures) c.moved-band.ensures.moved (is.0 ∙ ap (λ (w : ℕ). c.args.delay % w) c.from-width.ensures) (is.1 ∙ c.interval_of.ensures)) c.in_ok-test.ensures.only

@@ -10,6 +10,8 @@ use Rattle.edge_select.proofs.Framed.{part_bit, part_test_more, tests_more, rect
 use Rattle.edge_select.proofs.Everywhere.{none_added}
 use Rattle.edge_select.proofs.Bits.{counts_on, counts_logic}
 use Rattle.edge_select.proofs.Depth.{part_depth_more, rectangle_depth}
+use Rattle.edge_select.specs.Asked.{SeparatesRows, AddsOnly}
+use Rattle.edge_select.proofs.Asked.{only_rectangle}
 use Rattle.edge_select.proofs.frame_tests.rectangle_of.Goals as goal
 
 pub both-requires-clause-one : goal.both-requires-clause-one
@@ -50,3 +52,9 @@ returns-clause-registers c =
 pub returns-clause-none : goal.returns-clause-none
 returns-clause-none c all =
     none_added c.down_test.new.tests c.across_test.new.tests c.args.tests.now c.args.rectangle c.args.tests.now.size.sides.some_columns c.args.tests.now.size.sides.some_rows c.in_ok-across.ensures.tests.size_is c.in_ok-across.ensures.none c.in_ok-down.ensures.none all
+
+pub returns-clause-only : goal.returns-clause-only
+returns-clause-only c =
+    let size = size_of c.args.tests.now.size in
+    only_rectangle size c.args.tests.now.size.sides.some_columns c.args.tests.now.size.sides.some_rows c.args.delay c.args.rectangle c.down_test.new.tests c.across_test.new.tests c.args.tests.now c.requires.rectangle c.in_ok-across.ensures.only
+    (subst (λ (z : Size). AddsOnly c.down_test.new.tests c.across_test.new.tests (λ t. ⊥) (SeparatesRows z c.args.delay (IsIn c.args.rectangle.down))) c.in_ok-across.ensures.tests.size_is c.in_ok-down.ensures.only)

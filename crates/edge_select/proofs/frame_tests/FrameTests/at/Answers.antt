@@ -7,6 +7,8 @@ use Rattle.edge_select.specs.FrameTests.{IsFrameTest}
 use Rattle.edge_select.specs.Pixels.{AllPass}
 use Rattle.edge_select.proofs.Framed.{test_same}
 use Rattle.edge_select.proofs.Everywhere.{all_same}
+use Rattle.edge_select.specs.Asked.{AddsFor}
+use Rattle.edge_select.proofs.Asked.{for_same}
 use Rattle.edge_select.proofs.frame_tests.FrameTests.at.Goals as goal
 
 pub returns-clause-test : goal.returns-clause-test
@@ -30,3 +32,14 @@ returns-clause-none c all =
     subst (λ (d : ℤ). AllPass c.args.self.now.size.width c.args.self.now.size.height (LeadBy size steps d (to_z w32 (of_z w32 c.args.dy)))) (sym dx)
     (subst (λ (e : ℤ). AllPass c.args.self.now.size.width c.args.self.now.size.height (LeadBy size steps c.args.dx e)) (sym dy) all) in
     c.in_ok-net.ensures.none (all_same c.args.self.now.size.width c.args.self.now.size.height (PassesOn c.passing_pixels-rectangle.result) (LeadBy size steps (to_z w32 (of_z w32 c.args.dx)) (to_z w32 (of_z w32 c.args.dy))) c.passing_pixels-rectangle.ensures.passes there)
+
+pub returns-clause-only : goal.returns-clause-only
+returns-clause-only c =
+    let size = size_of c.args.self.now.size in
+    let steps = c.args.steps.now in
+    let dx : to_z w32 (of_z w32 c.args.dx) ≡ c.args.dx = to_z-of_z w32 c.args.dx (search rules) in
+    let dy : to_z w32 (of_z w32 c.args.dy) ≡ c.args.dy = to_z-of_z w32 c.args.dy (search rules) in
+    let all : AddsFor size c.args.delay (LeadBy size steps (to_z w32 (of_z w32 c.args.dx)) (to_z w32 (of_z w32 c.args.dy))) c.test_of.new.tests c.args.self.now =
+    for_same size c.args.self.now.size.sides.some_columns c.args.self.now.size.sides.some_rows c.args.delay (PassesOn c.passing_pixels-rectangle.result) (LeadBy size steps (to_z w32 (of_z w32 c.args.dx)) (to_z w32 (of_z w32 c.args.dy))) c.test_of.new.tests c.args.self.now c.passing_pixels-rectangle.ensures.passes c.in_ok-net.ensures.only in
+    subst (λ (d : ℤ). AddsFor size c.args.delay (LeadBy size steps d c.args.dy) c.test_of.new.tests c.args.self.now) dx
+    (subst (λ (e : ℤ). AddsFor size c.args.delay (LeadBy size steps (to_z w32 (of_z w32 c.args.dx)) e) c.test_of.new.tests c.args.self.now) dy all)

@@ -1,10 +1,9 @@
 use Rattle.std.proofs.Common.{◌≡◌, Option, Some, sym, ap, subst, ◌∙◌, arith}
 use Rattle.dk_base.specs.Frames.{Size}
 use Rattle.net_build.specs.Registers.{count_bits}
-use Rattle.edge_select.specs.FrameTests.{start_bits}
+use Rattle.edge_select.specs.FrameTests.{start_bits, AddsBeside}
 use Rattle.dk_base.specs.FrameSizes.{size_of}
 use Rattle.edge_select.specs.declared.counters.Counters.{Counters}
-use Rattle.edge_select.specs.FrameTests.{AddsBeside}
 use Rattle.edge_select.proofs.Beginning.{beside_control, counters_in}
 use Rattle.edge_select.proofs.Framed.{tests_more, some_counters_are}
 use Rattle.edge_select.proofs.frame_tests.FrameTests.started.Goals as goal
