@@ -85,8 +85,7 @@ def row(name, own, loops):
     """A row of the table: the loop of the least time counts."""
     program, loop = min(loops.items(), key=lambda it: min(map(total, it[1])))
     cells = [f"{best.user:.3f} + {best.system:.3f} s | {max(it.memory for it in runs) / 1e6:.0f} MB" for runs in (own, loop) for best in [min(runs, key=total)]]
-    beside = [machine.ratio(map(part, own), map(part, loop)) for part in (total, lambda it: max(it.user, 0.001))]
-    return f"| {name} | {' | '.join(cells)} | {program.split('_')[-1]} | {beside[0]:.1f} times | {beside[1]:.1f} times |"
+    return f"| {name} | {' | '.join(cells)} | {program.split('_')[-1]} | {machine.ratio(map(total, own), map(total, loop)):.1f} times |"
 
 
 def main():
@@ -102,8 +101,8 @@ def main():
         built = {path: build(os.path.basename(path), *given.size) for path in PROGRAMS}
         print(machine.described())
         print(f"loops by {', '.join(sorted(set().union(*(flags for _, flags in built.values()))))}\n")
-        print("| Program | `eval`, user + system | memory | loop, user + system | memory | by | `eval` beside it | user time only |")
-        print("|---|---|---|---|---|---|---|---|")
+        print("| Program | `eval`, user + system | memory | loop, user + system | memory | by | `eval` beside it |")
+        print("|---|---|---|---|---|---|---|")
         for path, (programs, _) in built.items():
             own, *loops = measured(dk, path, programs, given)
             print(row(os.path.basename(path), own, dict(zip(programs, loops))), flush=True)

@@ -1,11 +1,11 @@
 #!/usr/bin/env python3
 """`run` beside Verilator's compiled model of the text that `compile` prints, with one picture and in one run of this script.
 
-usage: python3 bench/run.py DK --table [--runs N] [--keep FOLDER]
+usage: python3 bench/run.py DK --table [NAME..] [--runs N] [--keep FOLDER]
        python3 bench/run.py DK [WIDTH HEIGHT [NAME]] [--block N] [--enable] [--hold K] [--other DK] [--no-icarus] [--runs N]
 
---table measures all examples and pipelines at 640 by 480, and two examples after `cut 1` and `widen 4`, and prints a table. --keep
-keeps the models in FOLDER, and takes those of equal texts from there.
+--table measures all examples and pipelines at 640 by 480, and two examples after `cut 1` and after `widen 4`, with the times of `eval`,
+and prints a table, or the rows of some. --keep keeps the models in FOLDER, and takes those of equal texts from there.
 Else it takes the 3 by 3 Gaussian of the examples, or another example at another size; pipelines/NAME is one of examples/pipelines.
 With --block or --enable the text is compiled so, and `sim` clocks it in place of `run`, with --hold K held clocks among the
 others. --other is a further program, as an earlier build. Icarus Verilog runs once.
@@ -191,10 +191,10 @@ class Case:
         return flags
 
     def measure(self, runs, others=()):
-        """The times of dk, of other programs, and of each model, in turn. Stops where a model has another picture."""
+        """The times of dk, of other commands, and of each model, in turn. Stops where a model has another picture."""
         make_images(self.widths, self.width, self.height)
         models = sorted(glob.glob("Vm_*"))
-        times = machine.in_turn([[it, *self.call()] for it in (self.dk, *others)] + [["./" + model] for model in models], runs)
+        times = machine.in_turn([[self.dk, *self.call()], *others, *(["./" + model] for model in models)], runs)
         expected = rasters(content("own.pgm"))
         for model in models:
             machine.timed("./" + model)
@@ -234,27 +234,26 @@ def cases_of_table():
 
 def table(given, dk, room):
     """All rows: first every model is built, and then every one is measured, so that no compiler runs beside a measure."""
-    keep = given.keep and os.path.abspath(given.keep)
-    if keep:
-        os.makedirs(keep, exist_ok=True)
     rows, flags = [], set()
-    for number, (name, rewrites, options) in enumerate(cases_of_table()):
+    for number, (name, rewrites, options) in enumerate(case for case in cases_of_table() if case[0] in given.size or not given.size):
         os.mkdir(f"{room}/{number}")
         os.chdir(f"{room}/{number}")
         case = Case(dk, name, (640, 480), rewrites, options)
-        flags |= {f"{compiler} {case.verilate(compiler, keep)}" for compiler in machine.compilers()}
+        flags |= {f"{compiler} {case.verilate(compiler, given.keep)}" for compiler in machine.compilers()}
         rows.append((number, case))
     if given.build:
         return
     print(machine.described("verilator"))
     print(f"models by {', '.join(sorted(flags))}\n")
-    print("| Program | Assigns | `dk` | ns a clock | gcc | clang | `dk` beside the faster |\n|---|---|---|---|---|---|---|")
+    print("| Program | Assigns | `dk` | ns a clock | gcc | clang | `dk` beside the faster | `eval` |\n" + "|---" * 8 + "|")
     for number, case in rows:
         os.chdir(f"{room}/{number}")
-        (own, *_), models = case.measure(given.runs)
+        (own, evaluated), models = case.measure(given.runs, [[dk, "eval", "g.dk", "g.pgm", "eval.pgm"]])
+        if content("eval.pgm") != content("own.pgm"):
+            machine.stop(f"{case.name()}: the picture of eval is another one")
         times = [f"{min(models[model]):.3f} s" if model in models else "–" for model in ("Vm_gcc", "Vm_clang")]
         beside = machine.ratio(own, fastest(models)[1])
-        print(f"| {case.name()} | {case.assigns:,} | {min(own):.3f} s | {1e9 * min(own) / case.clocks:.0f} | {' | '.join(times)} | {beside:.2f} times |", flush=True)
+        print(f"| {case.name()} | {case.assigns:,} | {min(own):.3f} s | {1e9 * min(own) / case.clocks:,.0f} | {' | '.join(times)} | {beside:.2f} times | {min(evaluated):.3f} s |", flush=True)
 
 
 def single(given, dk, room):
@@ -264,8 +263,8 @@ def single(given, dk, room):
     size = tuple(map(int, given.size[:2] or (640, 480)))
     options = (*["--block", given.block][:2 * bool(given.block)], *["--enable"] * given.enable)
     case = Case(dk, given.size[2] if len(given.size) > 2 else "gaussian3", size, (), options, given.hold)
-    flags = {f"Vm_{compiler}": case.verilate(compiler) for compiler in machine.compilers()} if shutil.which("verilator") else {}
-    others, models = case.measure(given.runs, [os.path.abspath(given.other)] if given.other else [])
+    flags = {f"Vm_{compiler}": case.verilate(compiler, given.keep) for compiler in machine.compilers()} if shutil.which("verilator") else {}
+    others, models = case.measure(given.runs, [[os.path.abspath(given.other), *case.call()]] if given.other else [])
     own = others[0]
     print(f"{machine.described('verilator')}\ndk {case.call()[0]}: {min(own):.3f} s, {1e9 * min(own) / case.clocks:.0f} ns a clock")
     named = [("the other program", other) for other in others[1:]]
@@ -297,6 +296,9 @@ def main():
     given = arguments()
     for tool in ["readelf"] + ["verilator", "make"] * given.table:
         shutil.which(tool) or machine.stop(f"{tool} is not installed")
+    if given.keep:
+        given.keep = os.path.abspath(given.keep)
+        os.makedirs(given.keep, exist_ok=True)
     with tempfile.TemporaryDirectory() as room:
         (table if given.table else single)(given, os.path.abspath(given.dk), room)
 

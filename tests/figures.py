@@ -2,7 +2,7 @@
 """Compares the figures of the documentation that a program dk computes with those that tools/figures.py prints. Names each line that differs,
 and ends with status 1 if there is one.
 
-usage: python3 tests/figures.py PROGRAM
+usage: python3 tests/figures.py [--all] PROGRAM      --all also compares what takes a second
 """
 import os
 import re
@@ -54,10 +54,11 @@ def faults(part, text):
 
 
 def main(words):
-    if len(words) != 1:
+    whole, words = "--all" in words, [word for word in words if word != "--all"]
+    if len(words) != 1 or words[0].startswith("-"):
         sys.exit(__doc__)
     pages, count = {}, 0
-    for part in figures.parts(words[0]):
+    for part in figures.parts(words[0], whole):
         if part.page not in pages:
             with open(os.path.join(TOP, part.page), encoding="utf-8") as file:
                 pages[part.page] = file.read()

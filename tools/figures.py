@@ -8,6 +8,7 @@ of dk computes, as a clock rate, is `..`. tests/figures.py compares the lines wi
 """
 import os
 import re
+import subprocess
 import sys
 import tempfile
 
@@ -71,8 +72,8 @@ class Part:
 class Measured:
     """The counts of programs by a built program. Each text is written once, and each call is made once."""
 
-    def __init__(self, program, folder):
-        self.dk, self.known = kept.Dk(os.path.abspath(program), folder), {}
+    def __init__(self, program, folder, whole):
+        self.dk, self.known, self.whole = kept.Dk(os.path.abspath(program), folder), {}, whole
 
     def call(self, *words):
         if words not in self.known:
@@ -210,9 +211,34 @@ def circuits(dk):
         plain, block = dk.counts(path), dk.counts(path, "--block 32")
         lines.append(row(name, *plain, *block[:4]))
     yield Part("docs/BENCH.md", [sized(LARGE), "dk compile p.dk p.v", "dk compile --block 32 p.dk p.v"], lines, head="| Program | registers | their bits | assigns |")
-    lines = [row(run.name_of(name, rewrites, options), dk.counts(dk.example(name, MIDDLE, *rewrites), " ".join(options))[2], *[OPEN] * 5)
+    lines = [row(run.name_of(name, rewrites, options), dk.counts(dk.example(name, MIDDLE, *rewrites), " ".join(options))[2], *[OPEN] * 6)
              for name, rewrites, options in run.cases_of_table()]
     yield Part("docs/BENCH.md", [sized(MIDDLE), "dk compile p.dk p.v"], lines, head="| Program | Assigns | `dk` |")
+
+
+LARGEST = {
+    "wide": "one image of 65,535 nodes with 4,096 live reads", "deep": "255 images of 255 nodes", "late": "a latency of {latency:,} clocks",
+    "clamp": "one clamped read with 4,096 candidates", "clamps": "the same read 4,096 times",
+}
+# Their texts take a second, so the quick tests pass them over.
+SLOW = ("wide", "deep")
+
+
+def largest(dk):
+    """BENCH, the texts of the largest programs, and the bytes of the shipped program."""
+    names = [name for name in LARGEST if dk.whole or name not in SLOW]
+    subprocess.run([sys.executable, os.path.join(TOP, "bench", "compile", "make.py"), *names], cwd=dk.dk.folder, check=True)
+    lines = []
+    for name, title in LARGEST.items():
+        if name not in names:
+            lines.append(row(f"`{name}`: {title}", *[OPEN] * 7))
+            continue
+        text = dk.verilog(f"{name}.dk")
+        registers, _, assigns, arrays, bits = counts_of(text)
+        title = title.format(latency=dk.plan(f"{name}.dk")["latency"]) if "{" in title else title
+        lines.append(row(f"`{name}`: {title}", assigns, registers, arrays, bits, f"{len(text):,} bytes", OPEN, OPEN))
+    yield Part("docs/BENCH.md", ["python3 bench/compile/make.py", "dk compile NAME.dk p.v"], lines, head="| Program | Assigns | Registers | Arrays | Bits | Text |")
+    yield Part("docs/BENCH.md", ["wc -c <bin/dk"], ["bin/dk has {:,} bytes".format(os.path.getsize(os.path.join(TOP, "bin", "dk")))])
 
 
 def cuts(dk):
@@ -261,13 +287,13 @@ def gallery(dk):
     yield Part("docs/GALLERY.md", ["dk plan examples/programs/NAME.dk", "dk compile examples/programs/NAME.dk p.v"], lines, head="| Program | Buffer bits by the plan | Memories |")
 
 
-PARTS = [readme, typed, simulated, packed, columns, circuits, cuts, pipelines, gallery]
+PARTS = [readme, typed, simulated, packed, columns, circuits, largest, cuts, pipelines, gallery]
 
 
-def parts(program):
-    """All parts, by a built program."""
+def parts(program, whole=True):
+    """All parts, by a built program; not whole without what takes long."""
     with tempfile.TemporaryDirectory() as folder:
-        dk = Measured(program, folder)
+        dk = Measured(program, folder, whole)
         for made in PARTS:
             yield from made(dk)
 
