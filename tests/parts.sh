@@ -83,7 +83,7 @@ begin_part() {
         # The status is written whatever signal comes. The part has none of these traps.
         trap : HUP INT PIPE TERM
         # shellcheck disable=SC2086
-        TMPDIR=$here/files DK_CHECK_PART=$mark/$started timeout -k 5 "$limit" ${words%%|*} <&- </dev/null >"$here/out" 2>"$here/err" 3>&-
+        TMPDIR=$here/files DK_CHECK_PART=$mark/$started timeout -k 5 "$limit" ${words%%|*} </dev/null >"$here/out" 2>"$here/err" 3>&-
         echo $? >"$here/status.new"
         mv "$here/status.new" "$here/status"
         echo "$started" >&3
