@@ -13,19 +13,22 @@ export PYTHONDONTWRITEBYTECODE=1
 begin_parts() {
     started=0
     running=0
-    work=$(mktemp -d) || exit 2
-    mark=${work##*/}.$$
+    work=
     trap end_parts EXIT
     trap 'exit 129' HUP
     trap 'exit 130' INT
     trap 'exit 141' PIPE
     trap 'exit 143' TERM
+    # (mktemp says which folder it has made, whatever signal comes)
+    work=$(trap '' HUP INT PIPE TERM && mktemp -d) || exit 2
+    mark=${work##*/}.$$
     mkfifo "$work/ended" && exec 3<>"$work/ended" || exit 2
 }
 
 # end_parts: ends what is running, and removes the folder
 end_parts() {
     trap '' HUP INT PIPE TERM
+    [ -n "$work" ] || return
     # (a part that was just begun has its mark a moment later)
     for _ in 1 2 3 4 5 6 7 8 9; do
         has_running || break

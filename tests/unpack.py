@@ -15,6 +15,10 @@ import sys
 import tempfile
 
 TOP = os.path.dirname(os.path.dirname(os.path.realpath(__file__)))
+sys.dont_write_bytecode = True
+sys.path.insert(0, f"{TOP}/tools")
+import unpack  # noqa: E402
+
 EXAMPLES = [("pipelines", "isp"), ("programs", "harris"), ("pipelines", "corners")]
 ARRAY = re.compile(r"(?m)^  reg (?:\[(\d+):0\] )?m\w+ \[0:(\d+)\];$")
 LONG = 31
@@ -45,7 +49,7 @@ def long_widths(text):
 def unpacked(program, work):
     """The text of p.dk without its packing, which is written to u.v."""
     need(program, "compile", "--age", "1", "--block", "32", "p.dk", "b.v", work=work)
-    text = need(sys.executable, f"{TOP}/tools/unpack.py", "b.v", work=work)
+    text = unpack.unpacked(read(f"{work}/b.v").decode())
     with open(f"{work}/u.v", "w", encoding="ascii") as file:
         file.write(text)
     return text
