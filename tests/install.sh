@@ -89,7 +89,8 @@ for command in run compile plan sim eval make check trace cut narrow widen; do
         # shellcheck disable=SC2086
         [ "$(dk $words)" = "$page" ] || wrong "dk $words is not dk help $command"
     done
-    printf '%s\n' "$page" | awk 'length > 80 { exit 1 }' || wrong "the help of $command has more than 80 columns"
+    # (a line with the place of the installation is as long as the place makes it)
+    printf '%s\n' "$page" | grep -vF "$work" | awk 'length > 80 { exit 1 }' || wrong "the help of $command has more than 80 columns"
 done
 for option in compile:--enable compile:--block plan:--age sim:--fill sim:--hold cut:N check:REPORT trace:VCD; do
     dk help "${option%:*}" | grep -q "^  \(OUT, \)\{0,1\}${option#*:}" || wrong "the help of ${option%:*} does not have ${option#*:}"
