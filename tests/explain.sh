@@ -402,6 +402,12 @@ ended() {
     rm -f left
 }
 
+# What follows calls the script, which runs nothing in a checkout of other sources.
+if [ -n "$program" ] && ! ./dk --version >version 2>&1; then
+    wrong "the script dk has no program: $(head -n 1 version)"
+    program=
+fi
+
 # explains STATUS LINE WORD..: the script's `explain` with these words ends so, with the line on standard error, and prints standard input
 explains() {
     cat >wanted

@@ -4,6 +4,8 @@
 # build/known names the program that was found last, and a digest of the list of all files that this rests on, with the inode and the change
 # time of each. Nobody can set a change time, and a copy has other inodes. While the digest is the same, nothing is summed.
 
+newline='
+'
 # How many seconds a call waits for another one that sums. One that is stopped cannot hold up the others for longer.
 patience=20
 

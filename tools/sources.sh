@@ -1,6 +1,4 @@
 # What determines the program, to be sourced in the top folder: crates.txt, and src/, specs/ and proofs/ of dk and of each crate below it.
-newline='
-'
 
 # The crates of crates.txt that dk stands on, and dk itself, in the order of the file.
 crates_of_dk() {
@@ -72,25 +70,58 @@ sums_of() (
     esac
 )
 
+# sum_of LINE..: the sum of these lines, or of none
+sum_of() {
+    sum=$(if [ $# -gt 0 ]; then printf '%s\n' "$@"; fi | sha256sum) && echo "${sum%% *}"
+}
+
 # The sum of all sources; its status is that of sums_of.
 sum_of_all() {
     crates=$(crates_of_dk) && list=$(sha256sum crates.txt) || return 2
     # shellcheck disable=SC2086
     sums=$(sums_of $crates) || return
-    sum=$(printf '%s\n' "$list" "$sums" | sha256sum) && echo "${sum%% *}" || return 2
+    sum_of "$list" "$sums" || return 2
 }
 
-# The lines that tell the sources: the sum of all, that of crates.txt, and that of each crate. A part that has no sum has that of no lines.
+# parts_of LINES CRATES: the name and the sum of each of these crates, of which there is one a line; LINES are those of sums_of
+parts_of() (
+    crates=$2
+    set -f
+    IFS='
+'
+    # shellcheck disable=SC2086
+    set -- $1
+    for crate in $crates; do
+        part=
+        while [ $# -gt 0 ]; do
+            case ${1#* ?} in
+            "crates/$crate/"*) part=$part${part:+$IFS}$1 ;;
+            *) break ;;
+            esac
+            shift
+        done
+        echo "$crate $(sum_of ${part:+"$part"})"
+    done
+)
+
+# The lines that tell the sources: the sum of all, that of crates.txt, and that of each crate. Where a file would be passed over, there is no sum
+# of all, and that of its crate is the sum of no lines.
 source_lines() {
-    sum=$(sum_of_all)
-    [ "$?" != 2 ] || return 2
-    echo "sources $sum"
-    sum=$(sha256sum crates.txt) || return 2
-    echo "crates.txt ${sum%% *}"
-    for crate in $(crates_of_dk); do
+    crates=$(crates_of_dk) && list=$(sha256sum crates.txt) || return 2
+    # shellcheck disable=SC2086
+    sums=$(sums_of $crates)
+    status=$?
+    [ "$status" != 2 ] || return 2
+    echo "sources $([ "$status" != 0 ] || sum_of "$list" "$sums")"
+    echo "crates.txt ${list%% *}"
+    [ "$status" != 0 ] || {
+        parts_of "$sums" "$crates"
+        return
+    }
+    for crate in $crates; do
         sums=$(sums_of "$crate")
-        [ "$?" != 2 ] && sum=$(printf '%s' "$sums${sums:+$newline}" | sha256sum) || return 2
-        echo "$crate ${sum%% *}"
+        [ "$?" != 2 ] || return 2
+        echo "$crate $(sum_of ${sums:+"$sums"})"
     done
 }
 
