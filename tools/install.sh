@@ -237,13 +237,16 @@ place() {
         fail "cannot install $dest$1"
 }
 
-# take_back: all is as it was before this call
+# take_back: makes all as it was before this call
 take_back() {
     printf '%s' "$placed" | while IFS= read -r path; do
         inner=${path#"$prefix/"}
-        if [ -e "$stage/old/$inner" ] || [ -L "$stage/old/$inner" ]; then
+        # (a file that is still in the new folder was not put in place)
+        if [ -e "$stage/new/$inner" ] || [ -L "$stage/new/$inner" ]; then
+            continue
+        elif [ -e "$stage/old/$inner" ] || [ -L "$stage/old/$inner" ]; then
             mv -fT -- "$stage/old/$inner" "$dest$path"
-        elif [ ! -e "$stage/new/$inner" ] && [ ! -L "$stage/new/$inner" ]; then
+        else
             rm -f -- "$dest$path"
         fi
     done
@@ -273,7 +276,7 @@ if [ -n "$is_removal" ]; then
     [ -n "$before" ] || fail "nothing is installed: there is no $list"
     remove_files "$before" || fail 'not all files could be removed'
     remove_folders "$before"
-    exit
+    exit 0
 fi
 
 # shellcheck source=tools/sources.sh
