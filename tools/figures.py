@@ -238,8 +238,9 @@ def largest(dk):
 
 
 def cuts(dk):
-    """CUT: the bits and levels of its programs."""
+    """CUT: the bits and levels of its programs; CIRCUIT: the text of the first of them."""
     three = dk.cut(dk.written("three.dk", THREE), 1)
+    yield Part("docs/CIRCUIT.md", ["dk compile p.dk p.v, of the program of the page"], dk.verilog("three.dk").splitlines(), excerpt="```verilog")
     yield Part("docs/CUT.md", ["dk cut 1 p.dk cut.dk, of the program of the page"], ["`cut: definitions {} levels {}`".format(*three)])
     lines = []
     for title, text in (("sums along the line, inline, read at three rows", ALONG), ("sums down the column, an image, read at three columns", DOWN)):
@@ -363,6 +364,8 @@ PARTS = [readme, typed, simulated, packed, columns, circuits, largest, cuts, pip
 
 def parts(program, whole=True):
     """All parts, by a built program; not whole without what takes long."""
+    if not os.access(program, os.X_OK) or os.path.isdir(program):
+        sys.exit(f"{kept.TOOL}: {program}: not a program")
     with tempfile.TemporaryDirectory() as folder:
         dk = Measured(program, folder, whole)
         for made in PARTS:
