@@ -290,7 +290,7 @@ def arguments():
     words.add_argument("--other")
     words.add_argument("--no-icarus", action="store_true")
     words.add_argument("--runs", type=int, default=7)
-    return words.parse_args()
+    return words.parse_intermixed_args()
 
 
 def main():
