@@ -59,7 +59,6 @@ crates/batch_sim/README.md
 crates/buffer_plan/README.md
 crates/cycle_sim/README.md
 crates/datapath/README.md
-crates/datapath_values/README.md
 docs/GALLERY.md
 docs/PIPELINES.md
 docs/PROVING.md
@@ -86,7 +85,6 @@ crates/made_program/README.md
 crates/circuit/README.md
 crates/line_buffer/README.md
 crates/net_build/README.md
-crates/net_build_ring/README.md
 crates/net_names/README.md
 crates/netlist/README.md
 crates/pgm_codec/README.md

@@ -9,6 +9,7 @@ use Rattle.source_fault.specs.declared.fault.SourceFault.{SourceFault}
 use Rattle.source_fault.specs.declared.fault.SourceFault.TheVariants as source
 use Rattle.source_places.specs.Places.{line_of, column_of}
 use Rattle.source_places.specs.Plain.{ArePlain}
+use Rattle.source_places.specs.Names.{shown_name}
 use Rattle.fault_messages.specs.declared.TheConstants.{MAX_MESSAGES, MAX_DETAIL_BYTES}
 
 -- the word of a fault of tokens
@@ -63,10 +64,10 @@ start_of (source.Reads _) = 0
 start_of (source.Bits _) = 0
 start_of (source.Latency _) = 0
 
--- what a message begins with: the file's name, the place of a fault and its word
+-- what a message begins with: the file's name as a terminal can show it, the place of a fault and its word
 abbrev pub head : (name : List ℕ) (line column : ℕ) (kind : List ℕ) → List ℕ
 head name line column kind =
-    name ++ codes ":" ++ decimal line ++ codes ":" ++ decimal column ++ codes ": error: " ++ kind ++ codes ": "
+    shown_name name ++ codes ":" ++ decimal line ++ codes ":" ++ decimal column ++ codes ": error: " ++ kind ++ codes ": "
 
 -- what follows it: lines that any terminal can show, within the limit
 pub record IsDetail (detail : List ℕ) : Type 0 where

@@ -14,7 +14,7 @@ use dk_parser::{ParseError, parse};
 use dk_types::{TypeFault, TypeFaultKind};
 use itoa::Buffer;
 use source_fault::SourceFault;
-use source_places::{Place, place_of};
+use source_places::{Place, place_of, shown_name};
 use std::alloc::{AllocError, Global};
 use syntax_messages::Source;
 use type_faults::{FoundFault, FoundTypes, type_faults};
@@ -94,7 +94,8 @@ fn head(alloc: Global, name: &str, at: Place, kind: &str) -> Result<Vec<u8>, Out
 {
     let mut line = Buffer::new();
     let mut column = Buffer::new();
-    let mut bytes = Vec::from_slice(alloc, name.as_bytes())?;
+    let shown = shown_name(alloc, name)?;
+    let mut bytes = Vec::from_slice(alloc, shown.as_bytes())?;
     bytes.extend_from_slice(b":")?;
     bytes.extend_from_slice(line.format(at.line).as_bytes())?;
     bytes.extend_from_slice(b":")?;
@@ -267,7 +268,7 @@ fn message_by_bytes(
     Ok(bytes)
 }
 
-/// The messages of the faults of a text, which has this name: that of its first fault, and if this is a fault of names or types, those of others found after it. Each begins as a compiler's messages do, with the name, the line, the column and the fault's word.
+/// The messages of the faults of a text, which has this name: that of its first fault, and if this is a fault of names or types, those of others found after it. Each begins as a compiler's messages do, with the name as a terminal can show it, the line, the column and the fault's word.
 pub fn explanation(
     alloc: Global,
     name: &str,

@@ -1,11 +1,13 @@
-//! Places in a source text as lines and columns, excerpts that mark a span, and text that any terminal can show.
+//! Places in a source text as lines and columns, excerpts that mark a span, text that any terminal can show, and names of files.
 #![tactic(auto)]
 
 mod marked;
+mod name;
 mod position;
 mod text;
 
 pub use marked::excerpt;
+pub use name::shown_name;
 pub use position::{Place, place_of};
 pub use text::PlainText;
 
