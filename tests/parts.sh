@@ -22,6 +22,8 @@ begin_parts() {
     # (mktemp says which folder it has made, whatever signal comes)
     work=$(trap '' HUP INT PIPE TERM && mktemp -d) || exit 2
     mark=${work##*/}.$$
+    # (tests of calls by other users make their folders below)
+    chmod 711 "$work" || exit 2
     mkfifo "$work/ended" && exec 3<>"$work/ended" || exit 2
 }
 
@@ -80,7 +82,7 @@ begin_part() {
     started=$((started + 1))
     running=$((running + 1))
     here=$work/$started
-    mkdir "$here" "$here/files" && printf '%s\n' "$1" >"$here/line" || exit 2
+    mkdir -m 711 "$here" "$here/files" && printf '%s\n' "$1" >"$here/line" || exit 2
     words=${1#*|}
     (
         # The status is written whatever signal comes. The part has none of these traps.
