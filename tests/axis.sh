@@ -14,6 +14,7 @@ trap 'rm -rf "$work"' EXIT
 trap 'exit 130' INT TERM HUP
 failed=0
 passed=0
+mode_of_null=$(find -L /dev/null -printf %m)
 
 wrong() {
     echo "axis: $*" >&2
@@ -67,7 +68,7 @@ lints() {
     said=$("$top/tools/axis" "$program" "$work/block" "$@" 2>&1) || { wrong "$program $*: $said"; return; }
     set -- "$program" "$@"
     if has iverilog; then
-        said=$(iverilog -g2005 -Wall -o /dev/null "$work"/block/*.v 2>&1)
+        said=$(iverilog -g2005 -Wall -t null "$work"/block/*.v 2>&1)
         [ -z "$said" ] || wrong "iverilog on $*: $said"
     fi
     if has verilator; then
@@ -85,21 +86,26 @@ lints() {
     passed=$((passed + 1))
 }
 
-# changed PROGRAM FILE WHAT OLD NEW [OPTION..]: the tests of the block of this program must refuse this change of a file
+# changed PROGRAM FILE WHAT OLD NEW [OLD NEW].. [-- OPTION..]: the tests of the block of this program must refuse these changes of a file
 changed() {
-    program=$1 file=$2 what=$3 old=$4 new=$5
-    shift 5
     rm -rf "$work/block"
-    "$top/tools/axis" "$work/$program.dk" "$work/block" --block 2 "$@" >/dev/null
-    grep -qF "$old" "$work/block/$file" || { wrong "$file has no '$old'"; return; }
-    python3 - "$work/block/$file" "$old" "$new" <<'PYTHON'
+    if ! python3 - "$top/tools/axis" "$work" "$@" <<'PYTHON'
+import subprocess
 import sys
-path, old, new = sys.argv[1:]
-text = open(path).read()
-open(path, "w").write(text.replace(old, new, 1))
+axis, work, program, file, _, *words = sys.argv[1:]
+end = words.index("--") if "--" in words else len(words)
+subprocess.run([axis, f"{work}/{program}.dk", f"{work}/block", "--block", "2", *words[end + 1:]], check=True, stdout=subprocess.DEVNULL)
+text = open(f"{work}/block/{file}").read()
+for old, new in zip(words[:end:2], words[1:end:2]):
+    if old not in text:
+        sys.exit(f"axis: {file} has no '{old}'")
+    text = text.replace(old, new, 1)
+open(f"{work}/block/{file}", "w").write(text)
 PYTHON
-    if make -s -C "$work/block" test >/dev/null 2>&1; then
-        wrong "$what is not noticed"
+    then
+        wrong "$3 was not tried"
+    elif make -s -C "$work/block" test >/dev/null 2>&1; then
+        wrong "$3 is not noticed"
     else
         passed=$((passed + 1))
     fi
@@ -307,10 +313,21 @@ changed sobel sobel_pair.v 'an output that changes while it waits' 'if (take) q'
 changed early early_axis.v 'a consumer that joins the outputs waits for ever' ".LAST(4'd8)" ".LAST(4'd6)"
 changed early early_axis.v 'an early output that shows a pixel too many in a flush' 'valid0 & ~flush' 'valid0'
 changed early early_fifo.v 'a word that is put into a full FIFO' 'assign room = ~full;' "assign room = 1'b1;"
-changed sobel sobel_axis.v 'pixels of a word at the wrong places' 'dout1, early0' 'early0, dout1' --pixels 2
-changed sobel sobel_axis.v 'a pixel that does not wait for its word' 'dout1, early0' 'dout1, dout0' --pixels 2
-changed waits waits_axis.v 'a pixel that waits a clock less than its word' 'early1[26:18]' 'early1[17:9]' --pixels 4
-changed sobel sobel_axis.v 'one pixel of a cut frame that is filled up with another pixel than 0' 's_axis_tdata[15:8] & {8{~fill}}' 's_axis_tdata[15:8]' --pixels 2
+changed sobel sobel_axis.v 'pixels of a word at the wrong places' 'dout1, early0' 'early0, dout1' -- --pixels 2
+changed sobel sobel_axis.v 'a pixel that does not wait for its word' 'dout1, early0' 'dout1, dout0' -- --pixels 2
+changed waits waits_axis.v 'a pixel that waits a clock less than its word' 'early1[26:18]' 'early1[17:9]' -- --pixels 4
+changed sobel sobel_axis.v 'one pixel of a cut frame that is filled up with another pixel than 0' 's_axis_tdata[15:8] & {8{~fill}}' 's_axis_tdata[15:8]' -- --pixels 2
+# A tvalid may not wait for tready, in the same clock or for longer, and no tready of an output may reach a tready of an input.
+changed sobel sobel_pair.v 'a tvalid that waits for tready in the same clock' 'output reg valid' 'output wire valid' \
+    '  reg full;' '  reg full, held; assign valid = held & ready;' 'ready | ~valid' 'ready | ~held' "valid <= 1'b0" "held <= 1'b0" 'if (take) valid' 'if (take) held'
+changed sobel sobel_pair.v 'a tvalid that waits until tready was 1' 'output reg valid' 'output wire valid' \
+    '  reg full;' '  reg full, held, seen; assign valid = held & seen; always @(posedge clk) seen <= resetn & (ready | valid);' \
+    'ready | ~valid' 'ready & seen | ~held' "valid <= 1'b0" "held <= 1'b0" 'if (take) valid' 'if (take) held'
+changed early early_fifo.v 'a tvalid of a longer FIFO that waits until tready was 1' 'output reg valid' 'output wire valid' \
+    '  reg some, full;' '  reg held, seen; assign valid = held & seen; always @(posedge clk) seen <= resetn & (ready | valid);  reg some, full;' \
+    'ready | ~valid' 'ready & seen | ~held' "valid <= 1'b0" "held <= 1'b0" 'if (ready | ~valid) valid' 'if (ready & seen | ~held) held'
+changed sobel sobel_pair.v 'a full FIFO that takes a word if its consumer does' 'room = ~full' 'room = ~full | ready' \
+    'full <= ~take & (full | put)' 'full <= ~take & (full | put) | full & put'
 
 none=$work/none
 printf 'size 1 1\ninput a : u8\nlet f = im(x,y) b(x,y) end\noutput f\n' >"$work/unknown.dk"
@@ -357,5 +374,21 @@ diff -r "$work/without" "$work/block" >/dev/null || wrong 'one pixel in a word i
 # words of two pixels: 4 by which the early output leads and 2, and 2 of the late one, of 16 bits, tuser and tlast
 "$top/tools/axis" "$work/early.dk" "$work/block" --pixels 2 >"$work/said"
 grep -q '2 pixels in a word; 128 bits of line buffers (the plan), 144 bits of FIFOs' "$work/said" || wrong "the bits of the FIFOs of two pixels are not printed: $(cat "$work/said")"
+# the name of a block may have the words that stand for texts in the files
+rm -rf "$work/block"
+accepted 'a name with words of the files' "$work/block/NAME_TEXTS_FOLDER_WHOLE_axis.v" "$top/tools/axis" "$work/early.dk" "$work/block" --name NAME_TEXTS_FOLDER_WHOLE
+holds make -s -C "$work/block" test
+grep -q 'files: \[NAME_TEXTS_FOLDER_WHOLE_core.v, ' "$work"/block/NAME_TEXTS_FOLDER_WHOLE.core || wrong 'a name with words of the files is changed in the core file'
+# of a large frame Icarus Verilog tries a small copy, so that the tests end within a minute, and Verilator the block itself
+rm -rf "$work/block"
+accepted 'the block of a large program' "$work/block/test/icarus/small.v" "$top/tools/axis" "$top/examples/pipelines/isp.dk" "$work/block"
+grep -q '^// .*: frames of 16 by 12,' "$work/block/test/icarus/small.v" || wrong 'the copy for Icarus Verilog has no frames of 16 by 12'
+grep -q '^SOURCES = isp_core.v isp_pair.v isp_axis.v test/bench.v$' "$work/block/Makefile" || wrong 'Verilator does not try the block itself'
+# a compiler that runs as root and replaces its output changes the mode of /dev/null for all users
+if [ "$(find -L /dev/null -printf %m)" = "$mode_of_null" ]; then
+    passed=$((passed + 1))
+else
+    wrong "the mode of /dev/null is $(find -L /dev/null -printf %m), and was $mode_of_null"
+fi
 echo "$passed passed, $failed failed"
 [ $failed = 0 ]

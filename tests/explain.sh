@@ -80,6 +80,23 @@ v.v:1:26: error: BadConstant: A constant is written as `8'd255`: its size is 1 t
    1 | /* ?????????????????? */ 8'd256
      |                          ^^^^^^
 end
+# A TAB of a line is one blank, and one column; in the name of a file it is `?`, as each control character. A long name is whole.
+printf "/*\t*/\t8'd256\n" >"$(printf 'a\tb\033[31m.v')"
+says 5 'verilog 6-12: BadConstant' trace "$(printf 'a\tb\033[31m.v')" 3 i.pgm t.vcd <<'end'
+a?b?[31m.v:1:7: error: BadConstant: A constant is written as `8'd255`: its size is 1 to 64 bits, and its number fits the size.
+   1 | /* */ 8'd256
+     |       ^^^^^^
+end
+long=$(printf '%0250d' 0)
+printf "8'd256\n" >"$long"
+ends 5 'verilog 0-6: BadConstant' trace "./$long" 3 i.pgm t.vcd <<end
+./$long:1:1: error: BadConstant: A constant is written as \`8'd255\`: its size is 1 to 64 bits, and its number fits the size.
+   1 | 8'd256
+     | ^^^^^^
+end
+usage_fault plan copy.dk "$(printf 'a\tb')" <<'end'
+`a?b` is one word too many. plan expects PROG.
+end
 shown=$(printf '\302\240\302\256\330\233\342\200\212\342\200\220\342\201\237\342\201\260\357\277\274\363\241\200\200')
 verilog_fault '32-38: BadConstant' "/* $shown */ 8'd256\n" <<end
 v.v:1:17: error: BadConstant: A constant is written as \`8'd255\`: its size is 1 to 64 bits, and its number fits the size.
@@ -341,10 +358,15 @@ while read -r fault; do
     [ -n "$(meaning "${fault%.*}" "${fault#*.}" 1 2 3 4 5)" ] || wrong "no sentence on $fault"
 done <explained
 
+# (the folder of the checkout can have any name)
+ln -s "$top/dk" dk
+SHELL=/bin/sh
+export SHELL
+
 # terminal STATUS COMMAND: runs this command of the shell under a terminal; it ends so, and what is shown is standard input
 terminal() {
     sed 's/$/\r/' >wanted
-    script -q -e -c "$2" /dev/null </dev/null >typed
+    timeout 60 script -q -e -c "$2" /dev/null </dev/null >typed
     got=$?
     # (on a busy machine a call may be long enough to show how far it is)
     sed 's/\r[^\r]*\x1b\[K//g' <typed >shown
@@ -353,10 +375,11 @@ terminal() {
 
 # ended SIGNAL STATUS COMMAND: this signal ends the script dk and the program, which waits for images in a named pipe
 ended() {
-    rm -f pipe pid
+    rm -f pipe pid opened
     mkfifo pipe
     {
         exec 4>pipe
+        : >opened
         # (the program is waiting now; the script may still be about to wait for it)
         sleep 0.3
         kill -s "$1" "$(cat pid)"
@@ -364,32 +387,77 @@ ended() {
         (trap '' PIPE && echo >&4) 2>/dev/null && echo 'it reads' >left
         exec 4>&-
     } &
+    writer=$!
     # (where this test was begun in the background, SIGINT and SIGQUIT are ignored)
     if env --default-signal true 2>/dev/null; then
-        env --default-signal sh -c "$3" </dev/null >shown 2>&1
+        timeout 60 env --default-signal sh -c "$3" </dev/null >shown 2>&1
     else
-        sh -c "$3" </dev/null >shown 2>&1
+        timeout 60 sh -c "$3" </dev/null >shown 2>&1
     fi
     got=$?
+    # (a call that never opens the pipe leaves the writer waiting for a reader)
+    [ -e opened ] || kill "$writer"
     wait
     [ "$got" = "$2" ] && [ ! -e left ] || wrong "SIG$1 to $3: status $got, $(cat shown left 2>/dev/null)"
     rm -f left
 }
 
+# What follows calls the script, which runs nothing in a checkout of other sources.
+if [ -n "$program" ] && ! ./dk --version >version 2>&1; then
+    wrong "the script dk has no program: $(head -n 1 version)"
+    program=
+fi
+
+# explains STATUS LINE WORD..: the script's `explain` with these words ends so, with the line on standard error, and prints standard input
+explains() {
+    cat >wanted
+    status=$1
+    line=$2
+    shift 2
+    ./dk explain "$@" >stdout 2>stderr
+    got=$?
+    [ "$got" = "$status" ] && [ "$(cat stderr)" = "$line" ] && cmp -s stdout wanted || wrong "dk explain $*: status $got, $(cat stderr stdout)"
+}
+
+# `explain` of a Verilog text: `--` may be before or after its word, and a word that begins with a hyphen is an option without it. It needs no
+# folder for files of its own.
+if [ -n "$program" ]; then
+    printf "module m(input clk);\n\tinitial\n" | tee m.v >./-m.v
+    for name in m.v -m.v; do
+        cat >"said$name" <<end
+$name:2:2: error: NotInSubset: This is outside the subset: it has one operator a right side, and one block \`always @(posedge clk)\` of \`<=\` (docs/VERILOG.md).
+   2 |  initial
+     |  ^^^^^^^
+end
+    done
+    fault='verilog 22-29: NotInSubset'
+    explains 5 "$fault" m.v <saidm.v
+    explains 5 "$fault" -- m.v <saidm.v
+    explains 5 "$fault" m.v -- <saidm.v
+    explains 5 "$fault" -- -m.v <said-m.v
+    explains 2 "$usage" -m.v </dev/null
+    explains 2 "$usage" -m.v -- </dev/null
+    explains 2 "$usage" m.v m.v </dev/null
+    TMPDIR=$PWD/none
+    export TMPDIR
+    explains 5 "$fault" m.v <saidm.v
+    unset TMPDIR
+fi
+
 # The script dk adds nothing, and passes on its status and signals.
 if [ -n "$program" ]; then
-    quiet="echo \$\$ >pid; exec '$top/dk' run copy.dk pipe o.pgm 2>quiet"
+    quiet="echo \$\$ >pid; exec ./dk run copy.dk pipe o.pgm 2>quiet"
     for signal in 'TERM 143' 'INT 130' 'HUP 129' 'USR1 138'; do
         ended "${signal% *}" "${signal#* }" "$quiet"
     done
-    "$top/dk" plan none.dk >shown 2>&1
+    ./dk plan none.dk >shown 2>&1
     echo $? >>shown
     printf '%s\n' 'cannot read' 7 | cmp -s - shown || wrong "without a terminal dk shows: $(cat shown)"
 fi
 
 # Under a terminal it shows the line and the explanation, where the program can be asked again; and nothing else is changed.
 if [ -n "$program" ] && script -q -e -c true /dev/null </dev/null >/dev/null 2>&1; then
-    terminal 7 "'$top/dk' plan none.dk" <<'end'
+    terminal 7 "./dk plan none.dk" <<'end'
 cannot read
 PROG, `none.dk`, cannot be read: there is no such file.
 end
@@ -402,41 +470,41 @@ p.dk:3:17: error: UnknownImage: there is no image `b`
      = help: an image reads inputs and earlier definitions
 end
     for words in 'plan p.dk' 'run --age 1 p.dk none.pgm o.pgm' 'eval p.dk - o.pgm' 'compile --enable --block 2 p.dk o.v' 'cut 1 p.dk o.dk' 'narrow p.dk o.dk' 'widen 2 p.dk o.dk' 'check p.dk none.txt'; do
-        terminal 3 "'$top/dk' $words" <place
+        terminal 3 "./dk $words" <place
     done
-    terminal 3 "cat i.pgm | '$top/dk' run p.dk /dev/stdin o.pgm" <place
-    terminal 3 "cat p.dk | '$top/dk' plan /dev/stdin" <<'end'
+    terminal 3 "cat i.pgm | ./dk run p.dk /dev/stdin o.pgm" <place
+    terminal 3 "cat p.dk | ./dk plan /dev/stdin" <<'end'
 program 38-39: UnknownImage
 docs/COMMANDS.md ("What to do about a fault") has the kinds of faults.
 end
     printf 'P5\n3 1\n255\nab' >j.pgm
     for command in run eval; do
-        terminal 4 "'$top/dk' $command copy.dk j.pgm o.pgm" <<'end'
+        terminal 4 "./dk $command copy.dk j.pgm o.pgm" <<'end'
 image: Short 2 3
 j.pgm: error: Short: The file ends inside a raster: it has 2 of the 3 bytes of its last image.
 end
     done
     printf 'module m(input clk, input rst, input en, input [1:0] din, output valid, output [1:0] dout);\n  assign valid = ~rst;\n  assign dout = din;\nendmodule\n' >enabled.v
-    terminal 6 "'$top/dk' sim enabled.v 3 four.pgm o.pgm --fill zeros --hold 1" <<'end'
+    terminal 6 "./dk sim enabled.v 3 four.pgm o.pgm --fill zeros --hold 1" <<'end'
 stopped: count 6 of 4
 enabled.v: error: count: `valid` was 1 in 6 clocks, but the images have 4 pixels; take CLOCKS from the line `clocks` of the program's plan.
 end
-    terminal 10 "'$top/dk' check copy.dk report.txt" <<'end'
+    terminal 10 "./dk check copy.dk report.txt" <<'end'
 report: line 1
 report.txt:1:1: error: line: Line 1 is the first wrong line of the report, in its form or in what it states (docs/REPORT.md).
    1 | plan 4
 end
     # what goes to standard error and to other descriptors
     "$program" compile copy.dk copy.v
-    terminal 0 "'$top/dk' compile copy.dk /dev/stderr" <copy.v
+    terminal 0 "./dk compile copy.dk /dev/stderr" <copy.v
     for descriptor in 3 9; do
-        terminal 0 "'$top/dk' compile copy.dk /dev/fd/$descriptor $descriptor>o.v" </dev/null
+        terminal 0 "./dk compile copy.dk /dev/fd/$descriptor $descriptor>o.v" </dev/null
         cmp -s o.v copy.v || wrong "under a terminal the descriptor $descriptor is lost"
     done
-    terminal 0 "cat copy.dk | '$top/dk' compile /dev/stdin o.v" </dev/null
+    terminal 0 "cat copy.dk | ./dk compile /dev/stdin o.v" </dev/null
     cmp -s o.v copy.v || wrong 'under a terminal standard input is lost'
     for signal in 'TERM 143' 'INT 130' 'QUIT 131' 'HUP 129' 'USR1 138'; do
-        ended "${signal% *}" "${signal#* }" "script -q -e -c \"exec sh -c 'echo \\\$\\\$ >pid; exec \\\"$top/dk\\\" run copy.dk pipe o.pgm'\" /dev/null"
+        ended "${signal% *}" "${signal#* }" "script -q -e -c \"exec sh -c 'echo \\\$\\\$ >pid; exec ./dk run copy.dk pipe o.pgm'\" /dev/null"
         [ ! -s shown ] || wrong "SIG${signal% *} under a terminal shows $(cat shown)"
     done
 fi

@@ -89,7 +89,8 @@ for command in run compile plan sim eval make check trace cut narrow widen; do
         # shellcheck disable=SC2086
         [ "$(dk $words)" = "$page" ] || wrong "dk $words is not dk help $command"
     done
-    printf '%s\n' "$page" | awk 'length > 80 { exit 1 }' || wrong "the help of $command has more than 80 columns"
+    # (a line with the place of the installation is as long as the place makes it)
+    printf '%s\n' "$page" | grep -vF "$work" | awk 'length > 80 { exit 1 }' || wrong "the help of $command has more than 80 columns"
 done
 for option in compile:--enable compile:--block plan:--age sim:--fill sim:--hold cut:N check:REPORT trace:VCD; do
     dk help "${option%:*}" | grep -q "^  \(OUT, \)\{0,1\}${option#*:}" || wrong "the help of ${option%:*} does not have ${option#*:}"
@@ -162,19 +163,48 @@ for page in *.md; do
     done
 done >"$work/dangling"
 [ ! -s "$work/dangling" ] || wrong "links of the pages lead nowhere: $(cat "$work/dangling")"
+
+# Each script of tools/ that a page names is installed, or COMMANDS.md names it as one of the checkout.
+of_checkout=$(sed -n 's/^- Scripts that only the checkout has: \(.*\)\.$/\1/p' COMMANDS.md)
+for name in $(cat -- *.md ../CHANGELOG.md ../examples/README.md | grep -o '\btools/[a-z_]*\(\.[a-z]\{1,\}\)\{0,1\}' | sort -u); do
+    case ", $of_checkout," in
+    *", $name,"*) ;;
+    *) [ -x "../$name" ] || wrong "the pages name $name, which is not installed" ;;
+    esac
+done
+# (as COMMANDS.md says, in a folder with links)
+mkdir "$work/links" && CDPATH='' cd -- "$work/links" && ln -s "$work/root$prefix/share/doc/dk"/* . || exit 2
+shows 'plan 2' ./dk plan examples/programs/sobel.dk
+if command -v python3 >/dev/null; then
+    unset PYTHONDONTWRITEBYTECODE
+    shows '' tools/look examples/programs/sobel.dk examples/programs/scene.pgm "$work/page.html"
+    grep -q '<figure>' "$work/page.html" || wrong 'the installed tools/look makes no page'
+    shows '' tools/axis examples/programs/copy.dk "$work/axis" && [ -s "$work/axis/copy_core.v" ] || wrong 'the installed tools/axis makes no block'
+    shows 'module' tools/names.py examples/programs/copy.dk
+    shows '' tools/waves examples/programs/copy.dk examples/programs/gradient.pgm "$work/waves"
+    shows '' tools/png.py examples/programs/scene.pgm "$work/scene.png"
+    rm -rf "$work/axis"
+fi
 CDPATH='' cd -- "$work" || exit 2
 
 # A second time, over a file that is not in the list any more and beside a file of others; with the folder in DESTDIR
+find root -name __pycache__ -exec rm -r {} +
 everything root >before
 echo "file $prefix/bin/gone" >>"root$prefix/lib/dk/installed" && echo old >"root$prefix/bin/gone"
 DESTDIR=$work/root install_dk --prefix "$prefix" || wrong "installing again: $(cat "$work/said")"
 everything root | diff before - || wrong 'installing again changes what is installed'
 ! install_dk --dest root --uninstall || wrong 'what is not installed is uninstalled'
+[ -z "$(command -v python3)" ] || "root$prefix/share/doc/dk/tools/look" "$examples/programs/sobel.dk" "$examples/programs/scene.pgm" page.html || wrong 'tools/look'
+# (a list with a path outside of the prefix)
+echo other >"root/outside"
+printf 'file %s\n' /outside "$prefix/../../outside" >>"root$prefix/lib/dk/installed"
 echo other >"root$prefix/share/man/man1/other.1"
 install_dk --dest root --prefix "$prefix" --uninstall || wrong "uninstalling: $(cat "$work/said")"
 got=$(find root -type f)
-[ "$got" = "root$prefix/share/man/man1/other.1" ] || wrong "uninstalling beside another file leaves $got"
-rm -r root/some
+[ "$got" = "root/outside
+root$prefix/share/man/man1/other.1" ] || [ "$got" = "root$prefix/share/man/man1/other.1
+root/outside" ] || wrong "uninstalling beside another file leaves $got"
+rm -r root/some root/outside
 
 # Uninstalling leaves nothing, and nothing else is touched.
 mkdir -p root/usr/local/share/man
@@ -185,6 +215,55 @@ install_dk --dest=root || wrong "installing into /usr/local: $(cat "$work/said")
 shows 'usage: dk COMMAND' root/usr/local/bin/dk help
 install_dk --dest root --uninstall || wrong "uninstalling: $(cat "$work/said")"
 everything root | diff before - || wrong 'uninstalling does not leave all as it was'
+
+# refused TEXT: installing ends with status 1 and one line, which has the text, and leaves all as it was
+refused() {
+    everything root >before
+    install_dk --dest root
+    [ "$? $(wc -l <"$work/said")" = '1 1' ] && grep -qF "$1" "$work/said" || wrong "$1: $(cat "$work/said")"
+    everything root | diff before - || wrong "$1: not all is as it was"
+}
+
+# Files of others are not replaced, and not removed.
+for place in bin/dk share/man/man1/dk.1 share/doc/dk/docs/PGM.md; do
+    mkdir -p "root/usr/local/${place%/*}" && echo other >"root/usr/local/$place"
+    refused "/usr/local/$place is not of dk"
+    rm "root/usr/local/$place"
+    ln -s nowhere "root/usr/local/$place"
+    refused "/usr/local/$place is not of dk"
+    rm -r root/usr/local/*
+done
+
+# Where a new installation cannot be made or put in place, the one before it is as it was. A stub of mv fails at one file, or ends its caller.
+install_dk --dest root || wrong "installing: $(cat "$work/said")"
+echo old >root/usr/local/lib/dk/VERSION
+mv checkout/VERSION hidden
+refused 'cannot copy'
+mkdir stubs
+cat >stubs/mv <<END
+#!/bin/sh
+case \$* in
+*/new/share/man/man1/dk.1*) [ ! -e "$work/end" ] || kill -s KILL "\$PPID"; exit 1 ;;
+esac
+exec "$(command -v mv)" "\$@"
+END
+chmod +x stubs/mv
+mv hidden checkout/VERSION
+plain=$PATH
+PATH=$work/stubs:$PATH
+refused 'cannot install'
+: >end
+(install_dk --dest root) 2>/dev/null
+[ -x root/usr/local/bin/dk ] && [ -s root/usr/local/lib/dk/installed ] || wrong 'after the end of an installation there is no program or no list'
+PATH=$plain
+install_dk --dest root || wrong "installing after the end of an installation: $(cat "$work/said")"
+everything root >before
+install_dk --dest root --uninstall && install_dk --dest root || wrong "uninstalling and installing: $(cat "$work/said")"
+everything root | diff before - || wrong 'the end of an installation leaves something'
+[ "$(cat root/usr/local/lib/dk/VERSION)" = "$version" ] || wrong 'an upgrade leaves an old file'
+install_dk --dest root --uninstall
+[ "$(find root -mindepth 1)" = 'root/usr
+root/usr/local' ] || wrong "uninstalling leaves $(find root)"
 
 # What cannot be installed as a whole is not installed.
 mkdir -p root/usr/local/share/man/man1/dk.1

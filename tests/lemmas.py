@@ -41,7 +41,9 @@ def declarations(text):
 
 def main():
     files = {path: path.read_text() for kind in ("rt", "antt") for path in sorted((TOP / "crates").rglob(f"*.{kind}")) if "/out/" not in str(path)}
-    cited = Counter(name for path, text in files.items() for name in names(path, text))
+    cited = Counter()
+    for path, text in files.items():
+        cited.update(names(path, text))
     status = 0
     for path, text in files.items():
         if path.suffix == ".rt" or str(path).endswith(UNCITED):

@@ -26,7 +26,7 @@ RUST = re.compile(
     re.M,
 )
 KEYWORD = re.compile(rf"\b(?:data|record|abbrev|mod|as|ruleset)\s+(?:pub\s+)?({WORD})")
-TYPED = re.compile(r"([\w' ]+) : ")
+TYPED = re.compile(r"(?<![\w' ])([\w' ]+) : ")
 IMPORT = re.compile(r"\buse\s[^{};\n]*(?:\{[^}]*\})?")
 
 

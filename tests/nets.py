@@ -87,7 +87,9 @@ class Example:
         ports = [(f"{name}'s {dout}", name, dout, images[name][1]) for name, _, dout in nets.outputs]
         for what, name, net, delay in shows + ports:
             expected = self.pixels[name][:len(rows) - 2 - delay]
-            got = [value_of(rows[q + delay + 1][net], images[name][0], self.shown[name]) for q in range(len(expected))]
+            seen = [row[net] for row in rows[delay + 1:delay + 1 + len(expected)]]
+            shown = {code: value_of(code, images[name][0], self.shown[name]) for code in set(seen)}
+            got = [shown[code] for code in seen]
             if got != expected:
                 yield f"{what}: {net} does not show it"
 

@@ -1,6 +1,7 @@
 #!/bin/sh
 # Planted bodies: wrong changes of the code, each of which the proofs must refuse. They are edits as those in crates/NAME/must-fail, of crates
-# whose proofs take minutes, so that the gate does not try them. The crates have to be proved before (`./check --proofs`).
+# whose proofs take longer than half a minute: the gate would prove each of these once more for its edits. The crates have to be proved before
+# (`./check --proofs`).
 # usage: tests/planted.sh [CRATE..]      all crates by default; it takes some hours of processor time
 top=$(CDPATH='' cd -- "$(dirname -- "$0")/.." && pwd) && CDPATH='' cd -- "$top" || exit 2
 # shellcheck disable=SC2046

@@ -40,14 +40,16 @@ edit() {
     echo 'changed' >>"$1/checkout/crates/low/src/lib.rt"
 }
 
-# The commands that a build would use only leave a mark. While there is a folder calls/, sha256sum counts its calls there, and sources
-# calls/beforeN and calls/afterN at the N-th.
+# The commands that a build would use only leave a mark. While there is a file log, sha256sum writes its words there. While there is a folder
+# calls/, it counts its calls there, and sources calls/beforeN and calls/afterN at the N-th. `find` has no list of the mounted file systems, as
+# without /proc, or where the root is no mount point.
 mkdir stubs
 for name in python3 rt; do
     printf '#!/bin/sh\n: >"%s/built"\n' "$work" >"stubs/$name"
 done
 cat >stubs/sha256sum <<END
 #!/bin/sh
+[ ! -e "$work/log" ] || echo "\$*" >>"$work/log"
 [ -d "$work/calls" ] || exec "$(command -v sha256sum)" "\$@"
 number=1
 while ! mkdir "$work/calls/\$number" 2>/dev/null; do
@@ -59,7 +61,19 @@ status=\$?
 [ ! -e "$work/calls/after\$number" ] || . "$work/calls/after\$number"
 exit "\$status"
 END
-chmod +x stubs/*
+cat >stubs/find <<END
+#!/bin/sh
+case " \$* " in
+*' -fstype '*)
+    echo 'find: Cannot read mounted file system list.' >&2
+    exit 1
+    ;;
+esac
+exec "$(command -v find)" "\$@"
+END
+mkdir unlocked
+printf '#!/bin/sh\nexit 1\n' >unlocked/flock
+chmod +x stubs/* unlocked/*
 plain=$PATH
 PATH=$work/stubs:$PATH
 
@@ -75,7 +89,8 @@ echo 'other' >first/checkout/crates/other/src/lib.rt
 program first/checkout/bin/dk shipped
 
 # What is noted is only what did not change for two seconds, so all checkouts whose first call is to be noted are made before.
-for name in rest removed moved added edited aged linked link_file bin bin_other text hook crossing racing; do
+for name in rest removed moved added edited aged linked link_file bin bin_other text hook crossing racing waiting held \
+    private shared; do
     cp -r first "$name"
 done
 steps='before1 after1 before2 after2 before3 after3 before4 after4 before5 after5 before6 after6'
@@ -104,6 +119,88 @@ rm -r calls
 cp -r first fresh
 runs fresh shipped 'a fresh checkout'
 [ ! -e fresh/checkout/build/known ] || wrong 'what has just changed is noted'
+
+# Of calls at once the first one sums, and the others wait for it. A lock that is not given back holds no call up for long.
+: >log
+for _ in 1 2 3 4 5 6 7 8 9 10 11 12 13 14 15 16 17 18 19 20; do
+    timeout 100 waiting/checkout/dk plan &
+done >waited 2>&1
+wait
+[ "$(uniq -c <waited | tr -s ' ')" = ' 20 shipped' ] || wrong "calls at once: $(sort waited | uniq -c)"
+[ "$(grep -c '^bin/dk$' log)" = 1 ] || wrong "of 20 calls at once $(grep -c '^bin/dk$' log) sum"
+rm log
+if command -v flock >/dev/null; then
+    sed -i 's/^patience=.*/patience=1/' held/checkout/tools/choose.sh
+    (flock 8 && : >locked && exec sleep 100) 8<held/checkout/crates.txt &
+    holder=$!
+    until [ -e locked ]; do
+        sleep 0.1
+    done
+    runs held shipped 'a lock that is not given back'
+    kill "$holder"
+    wait "$holder" 2>/dev/null
+fi
+
+# build/known has the mode of any new file. A call of another user reads it, or says nothing and sums itself.
+other=
+command -v setpriv >/dev/null && [ "$(id -u)" = 0 ] && other='setpriv --reuid 65534 --regid 65534 --clear-groups' && chmod 755 "$work"
+while read -r name mask mode; do
+    before=$(umask)
+    umask "$mask"
+    runs "$name" shipped "a call with the umask $mask"
+    umask "$before"
+    [ "$(stat -c %a "$name/checkout/build/known")" = "$mode" ] || wrong "with the umask $mask build/known has another mode than $mode"
+    [ -n "$other" ] || [ "$mode" = 644 ] || chmod 0 "$name/checkout/build/known"
+    chmod 755 "$name/checkout/build"
+    # shellcheck disable=SC2086
+    got=$($other "$name/checkout/dk" plan 2>&1)
+    [ "$got" = shipped ] || wrong "a call of another user after the umask $mask: $got"
+done <<'end'
+shared 022 644
+private 077 600
+end
+
+# A sum that cannot be computed is not one that differs. More names than the system takes at once are no reason.
+cp -r first many
+number=0
+name=$(printf '%0120d' 0)
+while [ "$number" -lt 2500 ]; do
+    number=$((number + 1))
+    : >"many/checkout/crates/low/src/$name$number.rt"
+done
+program many/checkout/bin/dk shipped
+got=$(ulimit -s 1024 && many/checkout/dk plan 2>&1)
+[ "$got" = shipped ] || wrong "many files with a small stack: $got"
+mkdir few
+for tool in cat chmod cut date dirname find flock head mkdir mktemp mv readlink rm sed sh sort stat tail tr wc xargs; do
+    ln -s "$(PATH=$plain command -v $tool)" few
+done
+# unsummed TEXT: the last call of ./dk said in one line that the sums cannot be computed, and ended with status 1
+unsummed() {
+    [ "$status" = 1 ] && [ "$(wc -l <stderr)" = 1 ] && grep -q '^dk: the checksums .* cannot be computed: .*sha256sum' stderr || wrong "$1: status $status, $(cat stderr)"
+}
+PATH=$work/few first/checkout/dk plan 2>stderr
+status=$?
+unsummed 'no sha256sum'
+cp -r first failing
+mkdir calls
+printf 'echo "sha256sum: a failure" >&2\nexit 1\n' | tee calls/before2 calls/before3 calls/before4 calls/before5 >calls/before6
+failing/checkout/dk plan 2>stderr
+status=$?
+unsummed 'a sha256sum that fails'
+rm -r calls
+
+# A program that may not be executed, by its mode or its file system
+cp -r first mode
+chmod -x mode/checkout/bin/dk
+got=$(mode/checkout/dk plan 2>&1)
+[ "$? $got" = '1 dk: bin/dk may not be executed: its mode or its file system does not allow it' ] || wrong "a program without x: $got"
+# shellcheck disable=SC2016
+if unshare -rm sh -c 'mount -t tmpfs -o noexec none "$0"' "$work/mode" 2>/dev/null; then
+    # shellcheck disable=SC2016
+    got=$(unshare -rm sh -c 'mount -t tmpfs -o noexec none mode && cp -r first/checkout mode && sh mode/checkout/dk plan' 2>&1)
+    [ "$? $got" = '1 dk: bin/dk may not be executed: its mode or its file system does not allow it' ] || wrong "a mount without exec: $got"
+fi
 
 # A crate that is gone, a file more, an edit
 rm -r removed/checkout/crates/low
@@ -174,7 +271,8 @@ for name in $steps; do
     refuses "$name" "an edit at the sum $name"
 done
 for name in hook crossing; do
-    call="PATH='$plain'; $work/$name/checkout/dk plan"
+    # (with `flock` the second call would wait for the first, which waits for it)
+    call="PATH='$work/unlocked:$plain'; $work/$name/checkout/dk plan"
     change="echo changed >>$work/$name/checkout/crates/low/src/lib.rt"
     mkdir calls
     case $name in

@@ -37,7 +37,7 @@ warnings() {
 # lints WHAT: the text in dk.v
 lints() {
     if has iverilog; then
-        said=$(iverilog -g2005 -Wall -o /dev/null dk.v 2>&1)
+        said=$(iverilog -g2005 -Wall -t null dk.v 2>&1)
         [ -z "$said" ] || wrong "iverilog on $*: $said"
     fi
     if has verilator; then

@@ -32,7 +32,7 @@ answer_version() {
     echo "dk $version"
     while read -r word rest; do
         case $word in
-        kit | sources) echo "$word $rest" ;;
+        kit | sources) printf '%s %s\n' "$word" "$rest" ;;
         esac
     done <"$built.txt"
     exit

@@ -4,6 +4,11 @@
 # build/known names the program that was found last, and a digest of the list of all files that this rests on, with the inode and the change
 # time of each. Nobody can set a change time, and a copy has other inodes. While the digest is the same, nothing is summed.
 
+newline='
+'
+# How many seconds a call waits for another one that sums. One that is stopped cannot hold up the others for longer.
+patience=20
+
 # listed WORD..: `find` with these words over all that the choice rests on; what it cannot read is a line too
 listed() {
     set -- crates/*/src crates/*/specs crates/*/proofs "$@"
@@ -17,16 +22,69 @@ digest() {
     listed -printf '%D %i %s %C@ %p\0' | sha256sum
 }
 
-# is_settled: nothing changed while the sums were taken, nor in the two seconds before, within which a second change could have the same
-# time; and all files are on file systems of this machine, which show each change at once
-is_settled() {
-    [ -z "$(listed \( -newerct "@$((begun - 2))" -o ! \( -fstype ext4 -o -fstype ext3 -o -fstype ext2 -o -fstype xfs -o -fstype btrfs \
-        -o -fstype f2fs -o -fstype zfs -o -fstype tmpfs -o -fstype overlay \) \) -print -quit)" ] && [ "$(digest)" = "$now" ]
+# is_noted: build/known has the program of the digest `now`. The file of another user may be private.
+is_noted() {
+    { [ -f build/known ] && read -r program known <build/known; } 2>/dev/null && [ -n "$known" ] && [ "$known" = "$now" ] || return
+    [ "$program" = bin/dk ] || [ "$program" = build/dk ]
 }
 
-# note: writes build/known as a whole, or leaves it as it is
+# can_note: this user may write build/known, and all files are on file systems of this machine, which show each change at once. `stat` asks the
+# system for the kinds; `find` would need /proc.
+can_note() {
+    { [ -w build ] || { [ ! -e build ] && [ -w . ]; }; } || return
+    kinds=$(listed -print0 | xargs -0 stat -f -c %T -- | sort -u)
+    for kind in ${kinds:-none}; do
+        case $kind in
+        ext2 | ext2/ext3 | xfs | btrfs | f2fs | zfs | tmpfs | overlayfs) ;;
+        *) return 1 ;;
+        esac
+    done
+}
+
+# is_settled: nothing changed while the sums were taken, nor in the two seconds before, within which a second change could have the same time
+is_settled() {
+    [ -z "$(listed -newerct "@$((begun - 2))" -print -quit)" ] && [ "$(digest)" = "$now" ]
+}
+
+# note: writes build/known as a whole, or leaves it as it is. `mktemp` makes a private file; `chmod` gives it the mode of any new file.
 note() {
-    mkdir -p build && new=$(mktemp build/known.XXXXXX) && { echo "$program $now" >"$new" && mv -f "$new" build/known || rm -f "$new"; }
+    mkdir -p build && new=$(mktemp build/known.XXXXXX) || return
+    { echo "$program $now" >"$new" && chmod '=rw' "$new" && mv -fT "$new" build/known; } || rm -f "$new"
+}
+
+# choose: sets `program` to the one that was built from these sources. Status 1: there is none. Status 2: a sum could not be computed.
+choose() {
+    sources=$(sum_of_all) || return
+    for program in bin/dk build/dk; do
+        is_described "$program" "$sources" && return
+        [ "$?" != 2 ] || return 2
+    done
+    return 1
+}
+
+# wait_for_others: one call sums at a time, and the others wait for what it notes. The descriptor 8 is crates.txt, open for reading: a lock on it
+# needs no file of its own, and the system takes it back from a call that is ended. Without `flock` no call waits.
+wait_for_others() {
+    flock -w "$patience" 8 && { is_noted || { now=$(digest) && is_noted; }; }
+} 2>/dev/null
+
+# find_program: prints the program
+find_program() {
+    is_notable=
+    if can_note 2>/dev/null; then
+        is_notable=yes
+        ! wait_for_others || {
+            echo "$program"
+            return
+        }
+    fi
+    . tools/sources.sh
+    begun=$(date +%s 2>/dev/null)
+    choose 2>/dev/null || return
+    echo "$program"
+    # (in a subshell, since a limit on the size of files can end it)
+    ([ -z "$is_notable" ] || ! is_settled || note) >/dev/null 2>&1
+    return 0
 }
 
 # differing: the crates whose sources are not those of the shipped program
@@ -36,9 +94,23 @@ differing() {
     done
 }
 
-refuse() {
-    names=$(differing 2>/dev/null | tr '\n' ' ')
-    if [ -n "$names" ]; then
+# visible: standard input with `?` for control characters
+visible() {
+    LC_ALL=C tr '\000-\037\177' '[?*]'
+}
+
+# say_why STATUS: why there is no program
+say_why() {
+    if [ "$1" = 2 ]; then
+        reason=$({ choose >/dev/null; } 2>&1)
+        reason=$(printf '%s' "${reason%%"$newline"*}" | tr -s / | visible)
+        echo "dk: the checksums of the sources or of the program cannot be computed: ${reason:-try again}"
+        return
+    fi
+    names=$(differing 2>/dev/null | tr '\n' ' ' | visible)
+    if [ ! -f bin/dk ] || [ ! -f bin/dk.txt ]; then
+        echo 'dk: there is no bin/dk with its text bin/dk.txt, and no build/dk was built from these sources'
+    elif [ -n "$names" ]; then
         echo "dk: neither bin/dk nor build/dk was built from these sources. They differ from those of bin/dk in: ${names% }"
     else
         echo 'dk: bin/dk is not the program that bin/dk.txt describes, and no build/dk was built from these sources'
@@ -46,22 +118,14 @@ refuse() {
     echo 'dk: to build it, run tools/build.py, which proves all crates and takes hours (docs/BUILDING.md)'
 }
 
-now=$(digest)
-if [ -f build/known ] && read -r program known <build/known && [ -n "$known" ] && [ "$known" = "$now" ]; then
+now=$(digest 2>/dev/null)
+if is_noted; then
     echo "$program"
     exit
 fi
-. tools/sources.sh
-begun=$(date +%s)
-program=bin/dk
-is_of_sources bin/dk || {
-    program=build/dk
-    is_of_sources build/dk
-} || {
-    refuse >&2
+find_program 8<crates.txt
+status=$?
+[ "$status" = 0 ] || {
+    say_why "$status" >&2
     exit 1
 }
-echo "$program"
-# (in a subshell, since a limit on the size of files can end it)
-(! is_settled || note) >/dev/null 2>&1
-exit 0

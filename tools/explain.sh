@@ -119,7 +119,7 @@ explain_fault() {
     number=
     if [ -n "${file+set}" ]; then
         find_fault
-        put "$(shown_word "$file"):${number:+$number:$column:} error: ${fault%% *}: $sentence"
+        put "$(printf '%s' "$file" | shown):${number:+$number:$column:} error: ${fault%% *}: $sentence"
         [ -z "$number" ] || show_place "${span#*-}"
     else
         put "$sentence"
@@ -200,14 +200,14 @@ show_place() {
     [ "$(window | wc -c)" -lt 100 ] || more=' ..'
     put "$(printf '%4d' "$number") | $cut$(window | shown)$more"
     [ -n "$span" ] || return 0
-    indent=$(window | head -c "$((start - first))" | shown | tr -d '\200-\277' | tr -c '\t' ' ')
-    carets=$(window | tail -c "+$((start - first + 1))" | head -c "$(($1 - start))" | shown | tr -d '\200-\277' | tr -c '\t' '^')
+    indent=$(window | head -c "$((start - first))" | shown | tr -d '\200-\277' | tr '\000-\377' '[ *]')
+    carets=$(window | tail -c "+$((start - first + 1))" | head -c "$(($1 - start))" | shown | tr -d '\200-\277' | tr '\000-\377' '[^*]')
     put "     | ${cut:+   }$indent${carets:-^}"
 }
 
-# The bytes of the line from `first` on, 100 at most.
+# The bytes of the line from `first` on, 100 at most. A TAB is one blank, as it is one column.
 window() {
-    tail -c "+$((first + 1))" <"$file" 2>/dev/null | head -c 100 | head -n 1 | tr -d '\n'
+    tail -c "+$((first + 1))" <"$file" 2>/dev/null | head -c 100 | head -n 1 | tr -d '\n' | tr '\t' ' '
 }
 
 quoted() {
@@ -226,8 +226,8 @@ is_utf8() {
     })" ]
 }
 
-# Standard input as a terminal can show it: without ends of lines, and with `?` for each other control character but tab,
-# for each byte that is not part of a character of UTF-8, and for characters that reorder a line or are not visible.
+# Standard input as a terminal can show it: without ends of lines, and with `?` for each other control character, for each byte that is not part
+# of a character of UTF-8, and for characters that reorder a line or are not visible.
 shown() {
     held=
     held_bytes=
@@ -253,7 +253,7 @@ take_byte() {
         36023326224[0-3] | 36023520526[3-7] | 36023520527[0-2] | 3632402??2??)
         clean="$clean?" held= held_bytes=
         ;;
-    011 | 0[4-7]? | 1[0-6]? | 17[0-6] | 3022[4-7]? | 30[3-7]2?? | 3[1-3]?2?? | 3[45]?2??2?? | 36?2??2??2??)
+    0[4-7]? | 1[0-6]? | 17[0-6] | 3022[4-7]? | 30[3-7]2?? | 3[1-3]?2?? | 3[45]?2??2?? | 36?2??2??2??)
         clean="$clean$held_bytes\\0$1" held= held_bytes=
         ;;
     30[2-7] | 3[1-5]? | 36[0-4] | 3402[4-7]? | 34[1-7]2?? | 35[0-467]2?? | 3552[0-3]? | 3602[2-7]? | 36[1-3]2?? | 3642[01]? | 36?2??2??)
@@ -276,3 +276,6 @@ drop_held() {
     held=
     held_bytes=
 }
+
+# The folder of an installed page can have any name.
+[ "$docs" = docs ] || docs=$(printf '%s' "$docs" | shown)

@@ -20,15 +20,14 @@ explains() {
 explain_module() {
     # shellcheck disable=SC2034
     verilog=$1
-    answer=$(mktemp) || exit 1
-    "$built" trace -- "$verilog" 0 /dev/null /dev/./null >/dev/null 2>"$answer"
+    # (in a file of its own it would need a folder for such files)
+    line=$("$built" trace -- "$verilog" 0 /dev/null /dev/./null 2>&1 >/dev/null)
     status=$?
-    line=
-    read -r line <"$answer"
-    rm -f "$answer"
     [ "$status" != 4 ] || exit 0
     printf '%s\n' "$line" >&2
     [ "$status" != 5 ] || {
+        LC_ALL=C
+        export LC_ALL
         said=
         . "$top/tools/explain.sh"
         explain_fault
@@ -45,8 +44,24 @@ begins_with_module() {
     return 1
 }
 
-if [ "$# ${1-}" = '2 explain' ] && begins_with_module "$2"; then
-    explain_module "$2"
+# read_explain WORD..: sets `file` to the one word of `explain` that is a file; `--` may come before or after it. Other words are the program's.
+read_explain() {
+    [ "${1-}" = explain ] || return
+    shift
+    case $#${1+" $1"} in
+    '2 --') file=$2 ;;
+    '1 -'?* | '2 -'?*) return 1 ;;
+    '1 '*) file=$1 ;;
+    *) [ "$# ${2-}" = '2 --' ] && file=$1 ;;
+    esac
+}
+
+[ -x "$built" ] || {
+    echo "dk: ${built#"$top/"} may not be executed: its mode or its file system does not allow it" >&2
+    exit 1
+}
+if read_explain "$@" && begins_with_module "$file"; then
+    explain_module "$file"
 fi
 explains || exec "$built" "$@"
 exec 9<&0

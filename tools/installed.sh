@@ -16,8 +16,8 @@ page=$prefix/share/man/man1/dk.1
 trap 'exit 1' EXIT
 . "$top/tools/answer.sh"
 built=$top/bin/dk
-[ -x "$built" ] || {
-    echo "dk: $built is missing; install dk again" >&2
+[ -e "$built" ] || {
+    echo 'dk: lib/dk/bin/dk of its prefix is missing; install dk again' >&2
     exit 1
 }
 trap - EXIT

@@ -203,7 +203,7 @@ def named(modules, types, item):
     found, done = [], set()
     for match in WORD.finditer(text):
         word = match[0]
-        owner = re.search(r"([^\s(){}\[\],;.]+)\.$", text[: match.start()])
+        owner = text[match.start() - 1 : match.start()] == "." and re.search(r"([^\s(){}\[\],;.]+)\.$", text[max(0, match.start() - 200) : match.start()])
         if owner and item.module.uses.get(owner[1], ("", ""))[1] is None and modules.get(item.module.uses[owner[1]][0]):
             # The word is a name of an imported module.
             other = find(modules, types, modules[item.module.uses[owner[1]][0]], word)

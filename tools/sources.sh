@@ -34,38 +34,94 @@ unsummed() {
     find -L "$@" -name '.*' -prune -o ! -type f ! -type d -print -o -path '*/*/*/*/*/*/*/*/*/*' -print 2>/dev/null
 }
 
-# The SHA-256 of each file of these crates, a line each as sha256sum prints it, in the order of the C locale. It fails where a file would be
-# passed over.
+# files_of CRATE..: the files of these crates, each followed by NUL, in the order of their sums: by crate, by src, specs and proofs, by depth, and
+# by the bytes of the path. The last one is crates.txt, if `find` could read all folders. For `sort` each folder's path has one slash fewer than
+# that of the folder before, since a slash is less than a letter.
+files_of() {
+    slashes=
+    for crate; do
+        slashes=$slashes///
+    done
+    for crate; do
+        shift
+        for part in src specs proofs; do
+            if [ -e "crates/$crate/$part" ] || [ -L "crates/$crate/$part" ]; then
+                set -- "$@" "crates/$slashes$crate/$part"
+            fi
+            slashes=${slashes#/}
+        done
+    done
+    {
+        if [ $# -gt 0 ]; then
+            find -L "$@" -name '.*' -prune -o -type f -printf '%H\t%d\t%p\0'
+        fi && printf 'last\t0\tcrates.txt\0'
+    } | sort -z -t "$(printf '\t')" -k 1,1 -k 2,2n -k 3 | cut -z -f 3-
+}
+
+# The SHA-256 of each file of these crates, a line each as sha256sum prints it, in the order of the C locale. Status 1: a file would be passed
+# over, so these sources have no sum. Status 2: the sums could not be computed, and a tool says why.
 sums_of() (
     export LC_ALL=C
     [ $# -gt 0 ] && [ -z "$(unsummed "$@")" ] || exit 1
-    for crate; do
-        at=crates/$crate
-        shift
-        set -- "$@" "$at"/src/* "$at"/src/*/* "$at"/src/*/*/* "$at"/src/*/*/*/* "$at"/src/*/*/*/*/* "$at"/src/*/*/*/*/*/* \
-            "$at"/specs/* "$at"/specs/*/* "$at"/specs/*/*/* "$at"/specs/*/*/*/* "$at"/specs/*/*/*/*/* "$at"/specs/*/*/*/*/*/* \
-            "$at"/proofs/* "$at"/proofs/*/* "$at"/proofs/*/*/* "$at"/proofs/*/*/*/* "$at"/proofs/*/*/*/*/* "$at"/proofs/*/*/*/*/*/*
-    done
-    # Folders, and patterns that no file matches, have no sum.
-    sha256sum "$@" 2>/dev/null || :
+    lines=$(files_of "$@" | xargs -0 sha256sum) || exit 2
+    case $lines in
+    *'  crates.txt') printf '%s\n' "$lines" | sed -e '$d' -e 's://*:/:' || exit 2 ;;
+    *) exit 2 ;;
+    esac
 )
 
-# The sum of all sources; it fails where a file would be passed over.
-sum_of_all() {
-    # shellcheck disable=SC2046
-    sums=$(sums_of $(crates_of_dk)) || return
-    {
-        sha256sum crates.txt
-        printf '%s\n' "$sums"
-    } | sha256sum | cut -d ' ' -f 1
+# sum_of LINE..: the sum of these lines, or of none
+sum_of() {
+    sum=$(if [ $# -gt 0 ]; then printf '%s\n' "$@"; fi | sha256sum) && echo "${sum%% *}"
 }
 
-# The lines that tell the sources: the sum of all, that of crates.txt, and that of each crate.
+# The sum of all sources; its status is that of sums_of.
+sum_of_all() {
+    crates=$(crates_of_dk) && list=$(sha256sum crates.txt) || return 2
+    # shellcheck disable=SC2086
+    sums=$(sums_of $crates) || return
+    sum_of "$list" "$sums" || return 2
+}
+
+# parts_of LINES CRATES: the name and the sum of each of these crates, of which there is one a line; LINES are those of sums_of
+parts_of() (
+    crates=$2
+    set -f
+    IFS='
+'
+    # shellcheck disable=SC2086
+    set -- $1
+    for crate in $crates; do
+        part=
+        while [ $# -gt 0 ]; do
+            case ${1#* ?} in
+            "crates/$crate/"*) part=$part${part:+$IFS}$1 ;;
+            *) break ;;
+            esac
+            shift
+        done
+        echo "$crate $(sum_of ${part:+"$part"})"
+    done
+)
+
+# The lines that tell the sources: the sum of all, that of crates.txt, and that of each crate. Where a file would be passed over, there is no sum
+# of all, and that of its crate is the sum of no lines.
 source_lines() {
-    echo "sources $(sum_of_all)"
-    echo "crates.txt $(sha256sum crates.txt | cut -d ' ' -f 1)"
-    for crate in $(crates_of_dk); do
-        echo "$crate $(sums_of "$crate" | sha256sum | cut -d ' ' -f 1)"
+    crates=$(crates_of_dk) && list=$(sha256sum crates.txt) || return 2
+    # shellcheck disable=SC2086
+    sums=$(sums_of $crates)
+    status=$?
+    [ "$status" != 2 ] || return 2
+    echo "sources $([ "$status" != 0 ] || sum_of "$list" "$sums")"
+    echo "crates.txt ${list%% *}"
+    [ "$status" != 0 ] || {
+        parts_of "$sums" "$crates"
+        return
+    }
+    for crate in $crates; do
+        sums=$(sums_of "$crate")
+        [ "$?" != 2 ] || return 2
+        echo "$crate $(sum_of ${sums:+"$sums"})"
     done
 }
 
@@ -85,16 +141,26 @@ compiler_of_kit() {
     done
 }
 
-# is_of_sources FILE: the program that the text FILE.txt describes is FILE, and was built from exactly these sources
+# is_described FILE SUM: the text FILE.txt describes the program FILE, and sources with this sum. Status 2: the program could not be summed.
+is_described() {
+    [ -f "$1" ] && [ -f "$1.txt" ] && [ "$(value_of sources "$1.txt")" = "$2" ] || return 1
+    sum=$(sha256sum "$1") || return 2
+    [ "$(value_of program "$1.txt")" = "${sum%% *}" ]
+}
+
+# is_of_sources FILE: the program that the text FILE.txt describes is FILE, and was built from exactly these sources. Status 2: a sum that this
+# needs could not be computed.
 is_of_sources() {
-    sources=$(sum_of_all) && [ -x "$1" ] && [ -f "$1.txt" ] &&
-        [ "$(value_of sources "$1.txt")" = "$sources" ] &&
-        [ "$(value_of program "$1.txt")" = "$(sha256sum "$1" | cut -d ' ' -f 1)" ]
+    sources=$(sum_of_all) || return
+    is_described "$1" "$sources" && [ -x "$1" ]
 }
 
 # value_of WORD FILE: what follows this word on its line
 value_of() {
     while read -r word rest; do
-        [ "$word" != "$1" ] || echo "$rest"
+        if [ "$word" = "$1" ]; then
+            printf '%s\n' "$rest"
+            return
+        fi
     done <"$2"
 }

@@ -17,8 +17,17 @@ class Dump:
     def __init__(self, text):
         words = iter(text.split())
         self.names, self.widths, changes, ids, time = [], {}, {}, {}, None
+        now = None
         for word in words:
-            if word.startswith("$"):
+            kind = word[0]
+            if kind in "bB":
+                now[ids[next(words)]] = int(word[1:], 2)
+            elif kind in "01":
+                now[ids[word[1:]]] = int(kind)
+            elif kind == "#":
+                time = int(word[1:])
+                now = changes.setdefault(time, {})
+            elif kind == "$":
                 part = []
                 if word not in ("$end", "$dumpvars"):
                     part = list(iter(lambda: next(words), "$end"))
@@ -27,13 +36,8 @@ class Dump:
                     self.names.append(name)
                     self.widths[name] = int(part[1])
                     ids[part[2]] = name
-            elif word.startswith("#"):
-                time = int(word[1:])
-                changes.setdefault(time, {})
-            elif word[0] in "bB":
-                changes[time][ids[next(words)]] = int(word[1:], 2)
             else:
-                changes[time][ids[word[1:]]] = int(word[0])
+                now[ids[word[1:]]] = int(kind)
         self.last = time
         self.rows = []
         values = {}

@@ -1,4 +1,5 @@
-# Writes the programs that are largest for the compiler, each into a file of the folder that it runs in.
+# Writes the programs that are largest for the compiler, or those that are named, each into a file of the folder that it runs in.
+import sys
 
 
 def tree(leaves):
@@ -25,17 +26,37 @@ def write(name, first, definitions, output):
         file.write(f"output {output}\n")
 
 
-square = [(dx, dy) for dy in range(-32, 32) for dx in range(-32, 32)]
-# 65,535 nodes in one image, 4,096 live reads, each read eight times
-write("wide", "a", [("f", tree([read("a", *square[k % 4096]) for k in range(32768)]))], "f")
-# 255 images of 255 nodes, each with 16 live reads of the one before it
-small = [(dx, dy) for dy in range(-2, 2) for dx in range(-2, 2)]
-deep = [(f"i{k + 1}", tree([read(f"i{k}", *small[j % 16]) for j in range(128)])) for k in range(255)]
-write("deep", "i0", deep, "i255")
-# a latency of 66,846,720 clocks
-late = [(f"i{k + 1}", f"(i{k}(x,y+64)|i{k}(x+1,y+63))") for k in range(255)]
-write("late", "i0", late, "i255")
-# a clamped read with 4,096 candidates, once and 4,096 times
-corner = read("a", 63, 63) + " edge clamp"
-write("clamp", "a", [("f", corner)], "f")
-write("clamps", "a", [("f", tree([corner] * 4096))], "f")
+def wide():
+    """65,535 nodes in one image, 4,096 live reads, each read eight times."""
+    square = [(dx, dy) for dy in range(-32, 32) for dx in range(-32, 32)]
+    write("wide", "a", [("f", tree([read("a", *square[k % 4096]) for k in range(32768)]))], "f")
+
+
+def deep():
+    """255 images of 255 nodes, each with 16 live reads of the one before it."""
+    small = [(dx, dy) for dy in range(-2, 2) for dx in range(-2, 2)]
+    write("deep", "i0", [(f"i{k + 1}", tree([read(f"i{k}", *small[j % 16]) for j in range(128)])) for k in range(255)], "i255")
+
+
+def late():
+    """A latency of 66,846,720 clocks."""
+    write("late", "i0", [(f"i{k + 1}", f"(i{k}(x,y+64)|i{k}(x+1,y+63))") for k in range(255)], "i255")
+
+
+CORNER = read("a", 63, 63) + " edge clamp"
+
+
+def clamp():
+    """A clamped read with 4,096 candidates."""
+    write("clamp", "a", [("f", CORNER)], "f")
+
+
+def clamps():
+    """That read 4,096 times."""
+    write("clamps", "a", [("f", tree([CORNER] * 4096))], "f")
+
+
+PROGRAMS = {made.__name__: made for made in (wide, deep, late, clamp, clamps)}
+
+for name in sys.argv[1:] or PROGRAMS:
+    PROGRAMS[name]()

@@ -38,23 +38,36 @@ for words in eval run 'run --age 1'; do
     holds shown.pgm "($words)"
 done
 
-# The examples show the phases of their pictures.
+# The examples show the phases of their pictures. One process of Python splits them all.
+split() {
+    python3 - "$top/tools" <<'end'
+import sys
+sys.dont_write_bytecode = True
+sys.path.insert(0, sys.argv[1])
+import phases
+for names in open("widened"):
+    for name, part in zip(names.split(), ("shown", "parts")):
+        with open(f"{name}.pgm", "rb") as whole, open(f"{names.split()[0]}_{part}.pgm", "wb") as file:
+            file.write(phases.file_of(phases.split(phases.images(whole.read()), 2)))
+end
+}
 if command -v python3 >/dev/null; then
-    phases=$(dirname -- "$tests")/tools/phases.py
     while read -r name input <&3; do
-        "$program" widen 2 "$name.dk" wide.dk >stdout 2>stderr
+        "$program" widen 2 "$name.dk" "${name}_wide.dk" >stdout 2>stderr
         case $?,$(cat stderr) in
-        0,) ;;
-        11,'widen: '*) continue ;;
+        0,) echo "$name $input" ;;
+        11,'widen: '*) ;;
         *) wrong "$name is not widened: $(cat stderr)" ;;
         esac
-        python3 "$phases" split 2 "$input.pgm" parts.pgm
-        python3 "$phases" split 2 "$name.pgm" shown.pgm
-        ends 0 '' eval wide.dk parts.pgm out.pgm
-        holds shown.pgm "$name by two"
-        ends 0 '' run --age 1 wide.dk parts.pgm out.pgm
-        holds shown.pgm "$name by two, at age 1"
-    done 3<"$examples/programs/pictures.txt"
+    done 3<"$examples/programs/pictures.txt" >widened
+    split || wrong 'the pictures were not split'
+    is 'no example was widened' [ -s widened ]
+    while read -r name input <&3; do
+        ends 0 '' eval "${name}_wide.dk" "${name}_parts.pgm" out.pgm
+        holds "${name}_shown.pgm" "$name by two"
+        ends 0 '' run --age 1 "${name}_wide.dk" "${name}_parts.pgm" out.pgm
+        holds "${name}_shown.pgm" "$name by two, at age 1"
+    done 3<widened
 else
     echo 'widen: python3 is not installed, and the examples were passed over'
 fi

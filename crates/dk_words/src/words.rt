@@ -1,245 +1,70 @@
 //! The words that the program takes, as one command of `clap`.
 
-ghost use Rattle.std.specs.Prelude.{◌≡◌, IfOk, IfErr, false, List, [], ◌∷◌, ◌++◌, codes};
+ghost use Rattle.std.specs.Prelude.{◌≡◌, IfOk, IfErr, false, List, map, ◌++◌};
 ghost use Rattle.clap.specs.Words.{app_of, shape_of, kind_of, rule_of, HasMatchesOf};
-ghost use Rattle.clap.specs.declared.builder.command.Command.TheViews.{out-Command as fields_of};
+ghost use Rattle.dk_words.specs.Shapes as shapes;
 ghost use Rattle.dk_words.specs.Words as words;
 ghost use Rattle.dk_words.specs.Words.{texts, IsTaken};
 
+use crate::shapes::{COMMANDS, Kind, Shape};
 use clap::error::ErrorKind;
 use clap::{Arg, ArgAction, ArgMatches, Command, Error};
 use std::alloc::{AllocError, Global};
 
-// A word that must be given.
-fn word<'a>(alloc: Global, name: &'a str) -> Arg<'a>
-    ensures rule { rule_of result ≡ words.positional name.entry.now }
+// An argument of this kind and name.
+fn argument<'a>(alloc: Global, kind: Kind, name: &'a str) -> Arg<'a>
+    ensures rule { rule_of result ≡ shapes.rule_of_kind kind name.entry.now }
     ensures local { result.global ≡ false }
 {
-    Arg::new(alloc, name).required(true)
+    let argument = Arg::new(alloc, name);
+    match kind {
+        Kind::Word => argument.required(true),
+        Kind::Valued => argument.long(name),
+        Kind::Flag => argument.long(name).action(ArgAction::SetTrue),
+    }
 }
 
-// An option, which takes a value.
-fn option<'a>(alloc: Global, name: &'a str) -> Arg<'a>
-    ensures rule { rule_of result ≡ words.option name.entry.now }
-    ensures local { result.global ≡ false }
+// The command with an argument of this kind for each name, after those that it has.
+fn with_arguments<'a>(
+    alloc: Global,
+    command: Command<'a>,
+    kind: Kind,
+    names: &[&'a str],
+) -> Result<Command<'a>, AllocError>
+    ensures { IfOk result (λ c. shape_of c ≡ record (shape_of command.entry) {
+      rules = (shape_of command.entry).rules ++ map (shapes.rule_of_kind kind) (shapes.names_of names.now);
+    }) }
 {
-    Arg::new(alloc, name).long(name)
-}
-
-// An option without a value.
-fn flag<'a>(alloc: Global, name: &'a str) -> Arg<'a>
-    ensures rule { rule_of result ≡ words.flag name.entry.now }
-    ensures local { result.global ≡ false }
-{
-    Arg::new(alloc, name).long(name).action(ArgAction::SetTrue)
-}
-
-// A command of this name with the words PROG, IN and OUT.
-fn file_command<'a>(alloc: Global, name: &'a str) -> Result<Command<'a>, AllocError>
-    ensures shape { IfOk result (λ c. shape_of c ≡ words.file_command name.entry.now []) }
-    ensures local { IfOk result (λ c. (fields_of c).has_globals ≡ false) }
-{
-    let command = Command::new(alloc, name);
-    let command = command.arg(word(alloc, "PROG"))?;
-    let command = command.arg(word(alloc, "IN"))?;
-    let command = command.arg(word(alloc, "OUT"))?;
+    let mut command = command;
+    for name in names {
+        command = command.arg(argument(alloc, kind, name))?;
+    }
     Ok(command)
 }
 
-// `run [--age K] PROG IN OUT`.
-fn run_command<'a>(alloc: Global) -> Result<Command<'a>, AllocError>
-    ensures shape { IfOk result (λ c. shape_of c ≡ words.run_command) }
-    ensures local { IfOk result (λ c. (fields_of c).has_globals ≡ false) }
+// The command of a row of the table.
+fn shaped<'a>(alloc: Global, shape: &Shape<'a>) -> Result<Command<'a>, AllocError>
+    ensures { IfOk result (λ c. shape_of c ≡ shapes.command_of_row shape.now) }
 {
-    let command = file_command(alloc, "run")?;
-    let command = command.arg(option(alloc, "age"))?;
+    let command = Command::new(alloc, shape.name);
+    let command = with_arguments(alloc, command, Kind::Word, shape.words)?;
+    let command = with_arguments(alloc, command, Kind::Valued, shape.options)?;
+    let command = with_arguments(alloc, command, Kind::Flag, shape.flags)?;
     Ok(command)
 }
 
-// The words of `compile PROG OUT`.
-fn compile_words<'a>(alloc: Global) -> Result<Command<'a>, AllocError>
-    ensures shape { IfOk result (λ c. shape_of c ≡ words.compile_with [] []) }
-    ensures local { IfOk result (λ c. (fields_of c).has_globals ≡ false) }
+// The program with the commands of these rows.
+fn program_with<'a>(alloc: Global, rows: &[Shape<'a>]) -> Result<Command<'a>, AllocError>
+    ensures { IfOk result (λ c. app_of c ≡ shapes.program_of rows.now) }
 {
-    let command = Command::new(alloc, "compile");
-    let command = command.arg(word(alloc, "PROG"))?;
-    let command = command.arg(word(alloc, "OUT"))?;
-    Ok(command)
-}
-
-// `compile [--enable] [--age K] [--block N] PROG OUT`.
-fn compile_command<'a>(alloc: Global) -> Result<Command<'a>, AllocError>
-    ensures shape { IfOk result (λ c. shape_of c ≡ words.compile_command) }
-    ensures local { IfOk result (λ c. (fields_of c).has_globals ≡ false) }
-{
-    let command = compile_words(alloc)?;
-    let command = command.arg(option(alloc, "age"))?;
-    let command = command.arg(option(alloc, "block"))?;
-    let command = command.arg(flag(alloc, "enable"))?;
-    Ok(command)
-}
-
-// The words of `sim VERILOG CLOCKS IN OUT`.
-fn sim_words<'a>(alloc: Global) -> Result<Command<'a>, AllocError>
-    ensures shape { IfOk result (λ c. shape_of c ≡ words.sim_with []) }
-    ensures local { IfOk result (λ c. (fields_of c).has_globals ≡ false) }
-{
-    let command = Command::new(alloc, "sim");
-    let command = command.arg(word(alloc, "VERILOG"))?;
-    let command = command.arg(word(alloc, "CLOCKS"))?;
-    let command = command.arg(word(alloc, "IN"))?;
-    let command = command.arg(word(alloc, "OUT"))?;
-    Ok(command)
-}
-
-// `sim VERILOG CLOCKS IN OUT [--fill FILL] [--hold K]`.
-fn sim_command<'a>(alloc: Global) -> Result<Command<'a>, AllocError>
-    ensures shape { IfOk result (λ c. shape_of c ≡ words.sim_command) }
-    ensures local { IfOk result (λ c. (fields_of c).has_globals ≡ false) }
-{
-    let command = sim_words(alloc)?;
-    let command = command.arg(option(alloc, "fill"))?;
-    let command = command.arg(option(alloc, "hold"))?;
-    Ok(command)
-}
-
-// `trace VERILOG CLOCKS IN VCD`.
-fn trace_command<'a>(alloc: Global) -> Result<Command<'a>, AllocError>
-    ensures shape { IfOk result (λ c. shape_of c ≡ words.trace_command) }
-    ensures local { IfOk result (λ c. (fields_of c).has_globals ≡ false) }
-{
-    let command = Command::new(alloc, "trace");
-    let command = command.arg(word(alloc, "VERILOG"))?;
-    let command = command.arg(word(alloc, "CLOCKS"))?;
-    let command = command.arg(word(alloc, "IN"))?;
-    let command = command.arg(word(alloc, "VCD"))?;
-    Ok(command)
-}
-
-// `plan [--age K] PROG`.
-fn plan_command<'a>(alloc: Global) -> Result<Command<'a>, AllocError>
-    ensures shape { IfOk result (λ c. shape_of c ≡ words.plan_command) }
-    ensures local { IfOk result (λ c. (fields_of c).has_globals ≡ false) }
-{
-    let command = Command::new(alloc, "plan");
-    let command = command.arg(word(alloc, "PROG"))?;
-    let command = command.arg(option(alloc, "age"))?;
-    Ok(command)
-}
-
-// `check PROG REPORT`.
-fn check_command<'a>(alloc: Global) -> Result<Command<'a>, AllocError>
-    ensures shape { IfOk result (λ c. shape_of c ≡ words.check_command) }
-    ensures local { IfOk result (λ c. (fields_of c).has_globals ≡ false) }
-{
-    let command = Command::new(alloc, "check");
-    let command = command.arg(word(alloc, "PROG"))?;
-    let command = command.arg(word(alloc, "REPORT"))?;
-    Ok(command)
-}
-
-// `make N`.
-fn make_command<'a>(alloc: Global) -> Result<Command<'a>, AllocError>
-    ensures shape { IfOk result (λ c. shape_of c ≡ words.make_command) }
-    ensures local { IfOk result (λ c. (fields_of c).has_globals ≡ false) }
-{
-    let command = Command::new(alloc, "make");
-    let command = command.arg(word(alloc, "N"))?;
-    Ok(command)
-}
-
-// `cut N PROG OUT`.
-fn cut_command<'a>(alloc: Global) -> Result<Command<'a>, AllocError>
-    ensures shape { IfOk result (λ c. shape_of c ≡ words.cut_command) }
-    ensures local { IfOk result (λ c. (fields_of c).has_globals ≡ false) }
-{
-    let command = Command::new(alloc, "cut");
-    let command = command.arg(word(alloc, "N"))?;
-    let command = command.arg(word(alloc, "PROG"))?;
-    let command = command.arg(word(alloc, "OUT"))?;
-    Ok(command)
-}
-
-// The program, with the commands `run` and `eval`.
-fn picture_commands<'a>(alloc: Global) -> Result<Command<'a>, AllocError>
-    ensures { IfOk result (λ c. app_of c ≡ words.program_with words.picture_commands) }
-{
-    let command = Command::new(alloc, "dk")
+    let mut command = Command::new(alloc, "dk")
         .disable_help_flag(true)
         .disable_help_subcommand(true)
         .disable_version_flag(true)
         .subcommand_required(true);
-    let command = command.subcommand(run_command(alloc)?)?;
-    let command = command.subcommand(file_command(alloc, "eval")?)?;
-    Ok(command)
-}
-
-// The program, with `compile`, `sim` and `trace` too.
-fn verilog_commands<'a>(alloc: Global) -> Result<Command<'a>, AllocError>
-    ensures { IfOk result (λ c. app_of c
-        ≡ words.program_with (words.picture_commands ++ words.verilog_commands)) }
-{
-    let command = picture_commands(alloc)?;
-    let command = command.subcommand(compile_command(alloc)?)?;
-    let command = command.subcommand(sim_command(alloc)?)?;
-    let command = command.subcommand(trace_command(alloc)?)?;
-    Ok(command)
-}
-
-// `narrow PROG OUT`.
-fn narrow_command<'a>(alloc: Global) -> Result<Command<'a>, AllocError>
-    ensures shape { IfOk result (λ c. shape_of c ≡ words.narrow_command) }
-    ensures local { IfOk result (λ c. (fields_of c).has_globals ≡ false) }
-{
-    let command = Command::new(alloc, "narrow");
-    let command = command.arg(word(alloc, "PROG"))?;
-    let command = command.arg(word(alloc, "OUT"))?;
-    Ok(command)
-}
-
-// `widen P PROG OUT`.
-fn widen_command<'a>(alloc: Global) -> Result<Command<'a>, AllocError>
-    ensures shape { IfOk result (λ c. shape_of c ≡ words.widen_command) }
-    ensures local { IfOk result (λ c. (fields_of c).has_globals ≡ false) }
-{
-    let command = Command::new(alloc, "widen");
-    let command = command.arg(word(alloc, "P"))?;
-    let command = command.arg(word(alloc, "PROG"))?;
-    let command = command.arg(word(alloc, "OUT"))?;
-    Ok(command)
-}
-
-// `explain PROG`.
-fn explain_command<'a>(alloc: Global) -> Result<Command<'a>, AllocError>
-    ensures shape { IfOk result (λ c. shape_of c ≡ words.explain_command) }
-    ensures local { IfOk result (λ c. (fields_of c).has_globals ≡ false) }
-{
-    let command = Command::new(alloc, "explain");
-    let command = command.arg(word(alloc, "PROG"))?;
-    Ok(command)
-}
-
-// `nets [--enable] [--age K] [--block N] PROG`.
-fn nets_command<'a>(alloc: Global) -> Result<Command<'a>, AllocError>
-    ensures shape { IfOk result (λ c. shape_of c ≡ words.nets_command) }
-    ensures local { IfOk result (λ c. (fields_of c).has_globals ≡ false) }
-{
-    let command = Command::new(alloc, "nets");
-    let command = command.arg(word(alloc, "PROG"))?;
-    let command = command.arg(option(alloc, "age"))?;
-    let command = command.arg(option(alloc, "block"))?;
-    let command = command.arg(flag(alloc, "enable"))?;
-    Ok(command)
-}
-
-// The program, with `plan`, `check` and `make` too.
-fn first_commands<'a>(alloc: Global) -> Result<Command<'a>, AllocError>
-    ensures { IfOk result (λ c. app_of c ≡ words.program_with words.first_commands) }
-{
-    let command = verilog_commands(alloc)?;
-    let command = command.subcommand(plan_command(alloc)?)?;
-    let command = command.subcommand(check_command(alloc)?)?;
-    let command = command.subcommand(make_command(alloc)?)?;
+    for row in rows {
+        command = command.subcommand(shaped(alloc, row)?)?;
+    }
     Ok(command)
 }
 
@@ -247,13 +72,7 @@ fn first_commands<'a>(alloc: Global) -> Result<Command<'a>, AllocError>
 fn program_command<'a>(alloc: Global) -> Result<Command<'a>, AllocError>
     ensures { IfOk result (λ c. app_of c ≡ words.program) }
 {
-    let command = first_commands(alloc)?;
-    let command = command.subcommand(cut_command(alloc)?)?;
-    let command = command.subcommand(narrow_command(alloc)?)?;
-    let command = command.subcommand(widen_command(alloc)?)?;
-    let command = command.subcommand(explain_command(alloc)?)?;
-    let command = command.subcommand(nets_command(alloc)?)?;
-    Ok(command)
+    program_with(alloc, &COMMANDS)
 }
 
 /// The matches of words that are taken.
