@@ -45,7 +45,9 @@ def stages():
     found = []
     for line in text_of(TOP / "crates.txt").splitlines():
         crate = re.match(r"(\w+)(?: staticlib)?:", line)
-        if crate and found:
+        if crate and not found:
+            raise Fault(f"crates.txt has {crate[1]} before its first stage")
+        if crate:
             found[-1][1].append(crate[1])
         elif line.startswith("# ") and not line.endswith("."):
             found.append((line[2:], []))
@@ -59,7 +61,8 @@ class Readme:
         self.crate = crate
         head, *parts = re.split(r"^## (.*)\n", text_of(TOP / "crates" / crate / "README.md"), flags=re.M)
         self.head = head
-        self.sections = dict(zip(parts[::2], parts[1::2]))
+        self.names = parts[::2]
+        self.sections = dict(zip(self.names, parts[1::2]))
         paragraphs = [" ".join(part.split()) for part in head.split("\n\n")[1:] if part.strip()]
         self.first = paragraphs[0] if paragraphs else ""
 
@@ -68,7 +71,7 @@ class Readme:
         name = f"crates/{self.crate}/README.md"
         if not self.head.startswith(f"# {self.crate}\n\n") or not self.first:
             yield f"{name} does not begin with its crate and what it is"
-        claims = [section for section in self.sections if section.split()[0] in CLAIMING]
+        claims = [section for section in self.names if section.split(" ")[0] in CLAIMING]
         if claims != [section for section in SECTIONS if section in self.sections]:
             yield f"{name} has the sections {claims}, and not those of {SECTIONS} in their order"
 
