@@ -94,7 +94,8 @@ def main():
     words.add_argument("--size", nargs=2, type=int, default=(4096, 4096))
     words.add_argument("--runs", type=int, default=5)
     given = words.parse_args()
-    shutil.which("readelf") or machine.stop("readelf is not installed")
+    for tool in (given.dk, "readelf"):
+        shutil.which(tool) or machine.stop(f"{tool} is not a program that is installed")
     dk = os.path.abspath(given.dk)
     with tempfile.TemporaryDirectory() as room:
         os.chdir(room)

@@ -22,7 +22,10 @@ def stop(why):
 
 def timed(*words, **how):
     """What a command used."""
-    child = subprocess.Popen(words, **how)
+    try:
+        child = subprocess.Popen(words, **how)
+    except OSError as fault:
+        stop(f"{words[0]}: {fault.strerror}")
     _, status, used = os.wait4(child.pid, 0)
     child.returncode = os.waitstatus_to_exitcode(status)
     if child.returncode:
@@ -43,7 +46,10 @@ def ratio(own, other):
 
 def quiet(*words, **how):
     """Runs a command that must succeed; its messages are shown only where it does not."""
-    done = subprocess.run(words, capture_output=True, text=True, **how)
+    try:
+        done = subprocess.run(words, capture_output=True, text=True, errors="replace", **how)
+    except OSError as fault:
+        stop(f"{words[0]}: {fault.strerror}")
     if done.returncode:
         stop(f"{' '.join(words)} ended with {done.returncode}: {(done.stderr or done.stdout).strip()[-400:]}")
     return done.stdout

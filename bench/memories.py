@@ -8,21 +8,14 @@ processor time of seven runs of each text, in turn. It stops where two pictures 
 """
 import os
 import re
-import subprocess
 import sys
 import tempfile
 
+sys.dont_write_bytecode = True
+import machine  # noqa: E402
+
 HERE = os.path.dirname(os.path.abspath(__file__))
 RUNS = 7
-
-
-def timed(*words):
-    """The user and system time of a command."""
-    child = subprocess.Popen(words)
-    _, status, used = os.wait4(child.pid, 0)
-    if status:
-        sys.exit(f"{words} ended with {status}")
-    return used.ru_utime + used.ru_stime
 
 
 def measured(dk, example, width, height, options):
@@ -30,21 +23,22 @@ def measured(dk, example, width, height, options):
     text = open(f"{HERE}/../examples/programs/{example}.dk", encoding="utf-8").read()
     open("p.dk", "w", encoding="utf-8").write(re.sub(r"^size .*", f"size {width} {height}", text, flags=re.M))
     open("p.pgm", "wb").write(b"P5\n%d %d\n255\n" % (width, height) + os.urandom(width * height))
-    plan = subprocess.run([dk, "plan", "p.dk"], check=True, capture_output=True, text=True).stdout
-    clocks = re.search(r"^clocks (\d+)$", plan, re.M)[1]
+    clocks = re.search(r"^clocks (\d+)$", machine.quiet(dk, "plan", "p.dk"), re.M)[1]
     texts = [[], ["--block", "32"]]
     for k, block in enumerate(texts):
-        subprocess.run([dk, "compile", *options, *block, "p.dk", f"{k}.v"], check=True)
+        machine.quiet(dk, "compile", *options, *block, "p.dk", f"{k}.v")
     times = [[], []]
     for _ in range(RUNS):
         for k in range(2):
-            times[k].append(timed(dk, "sim", f"{k}.v", clocks, "p.pgm", f"{k}.pgm"))
+            times[k].append(sum(machine.timed(dk, "sim", f"{k}.v", clocks, "p.pgm", f"{k}.pgm")[:2]))
         if open("0.pgm", "rb").read() != open("1.pgm", "rb").read():
-            sys.exit("the pictures differ")
+            machine.stop("the pictures differ")
     return min(times[0]), min(times[1])
 
 
 def main():
+    if len(sys.argv) != 2:
+        sys.exit(__doc__)
     dk = os.path.abspath(sys.argv[1])
     with tempfile.TemporaryDirectory() as room:
         os.chdir(room)

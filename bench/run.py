@@ -133,8 +133,9 @@ class Case:
     def __init__(self, dk, example, size, rewrites=(), options=(), hold=0):
         self.dk, self.example, self.rewrites, self.options, self.hold = dk, example, rewrites, options, hold
         folder = EXAMPLES if "/" in example else os.path.join(EXAMPLES, "programs")
-        with open(f"{folder}/{example}.dk", encoding="utf-8") as file:
-            write("g.dk", re.sub(r"^size .*", f"size {size[0]} {size[1]}", file.read(), flags=re.M))
+        if not os.path.exists(f"{folder}/{example}.dk"):
+            machine.stop(f"no example {example}")
+        write("g.dk", re.sub(r"^size .*", f"size {size[0]} {size[1]}", content(f"{folder}/{example}.dk").decode(), flags=re.M))
         for words in rewrites:
             machine.quiet(dk, *words.split(), "g.dk", "new.dk")
             os.replace("new.dk", "g.dk")
@@ -294,8 +295,8 @@ def arguments():
 
 def main():
     given = arguments()
-    for tool in ["readelf"] + ["verilator", "make"] * given.table:
-        shutil.which(tool) or machine.stop(f"{tool} is not installed")
+    for tool in [given.dk] + ["readelf"] * bool(given.table or shutil.which("verilator")) + ["verilator", "make"] * given.table:
+        shutil.which(tool) or machine.stop(f"{tool} is not a program that is installed")
     if given.keep:
         given.keep = os.path.abspath(given.keep)
         os.makedirs(given.keep, exist_ok=True)

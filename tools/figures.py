@@ -144,13 +144,9 @@ def names_of(folder=EXAMPLES):
 # The parts of each page
 
 def readme(dk):
-    numbers = []
-    for size in (MIDDLE, LARGE):
-        plan = dk.plan(dk.example("gaussian3", size, "cut 1"), "--age", "1")
-        numbers += [plan["bits"], plan["latency"]]
-    commands = [sized(MIDDLE, "gaussian3"), "dk cut 1 p.dk cut.dk && dk plan --age 1 cut.dk", "and of 1920 1080"]
-    yield Part("README.md", commands, ["The Gaussian needs {:,} buffer bits so, and its latency is {:,} clocks. At 1920 by 1080 these are {:,} bits and {:,} clocks.".format(*numbers)])
-    yield Part("README.md", ["dk compile blur.dk blur.v"], dk.verilog(dk.written("blur.dk", BLUR)).splitlines(), excerpt="```verilog")
+    path = dk.written("blur.dk", BLUR)
+    yield Part("README.md", ["dk compile blur.dk blur.v"], dk.verilog(path).splitlines(), excerpt="```verilog")
+    yield Part("README.md", ["dk plan blur.dk"], ["It has {bits:,} buffer bits and a latency of {latency:,} clocks.".format(**dk.plan(path))])
 
 
 def typed(dk):
@@ -242,8 +238,9 @@ def largest(dk):
 
 
 def cuts(dk):
-    """CUT: the bits and levels of its programs."""
+    """CUT: the bits and levels of its programs; CIRCUIT: the text of the first of them."""
     three = dk.cut(dk.written("three.dk", THREE), 1)
+    yield Part("docs/CIRCUIT.md", ["dk compile p.dk p.v, of the program of the page"], dk.verilog("three.dk").splitlines(), excerpt="```verilog")
     yield Part("docs/CUT.md", ["dk cut 1 p.dk cut.dk, of the program of the page"], ["`cut: definitions {} levels {}`".format(*three)])
     lines = []
     for title, text in (("sums along the line, inline, read at three rows", ALONG), ("sums down the column, an image, read at three columns", DOWN)):
@@ -287,11 +284,88 @@ def gallery(dk):
     yield Part("docs/GALLERY.md", ["dk plan examples/programs/NAME.dk", "dk compile examples/programs/NAME.dk p.v"], lines, head="| Program | Buffer bits by the plan | Memories |")
 
 
-PARTS = [readme, typed, simulated, packed, columns, circuits, largest, cuts, pipelines, gallery]
+def page(path):
+    with open(os.path.join(TOP, path), encoding="utf-8") as file:
+        return file.read()
+
+
+def cells_of(line):
+    return [cell.strip() for cell in line.strip().strip("|").split("|")]
+
+
+def by_hand():
+    """The figures of bench/hand/README.md by filter, device and kind (dk or hand): cells and rates."""
+    found = {}
+    text = page("bench/hand/README.md")
+    for cells in map(cells_of, text.splitlines()):
+        if len(cells) in (6, 7) and cells[1] in ("dk", "hand"):
+            found[cells[0], "ECP5" if len(cells) == 7 else "iCE40", cells[1]] = cells[2:]
+    counts = r"([\d,]+) LUT, ([\d,]+) FF, (\d+) BRAM, (\d+) MUL, (\d+ to \d+) MHz"
+    harris = re.search(f"{counts}; by hand {counts}", text).groups()
+    found["harris", "ECP5", "dk"], found["harris", "ECP5", "hand"] = harris[:5], harris[5:]
+    return found
+
+
+def middle(rate):
+    ends = [int(end) for end in rate.split(" to ")]
+    return (ends[0] + ends[-1]) / 2
+
+
+def beside(own, hand):
+    """A cell of BENCH: dk's figure, the one by hand, and the ratio, of rates that of the middles."""
+    if own == hand == "0":
+        return "0 / 0"
+    number = middle if "to" in own + hand else lambda cell: int(cell.replace(",", ""))
+    return f"{own} / {hand} = {number(own) / number(hand):.2f}"
+
+
+def hand(_):
+    """BENCH, README and CUT: what bench/hand/README.md has."""
+    figures, rows, short = by_hand(), [], []
+    names = [name for name, device, kind in figures if device == "ECP5" and kind == "dk"]
+    for name in sorted(names, key=lambda name: ("enable" in name, "clamped" in name, "harris" in name)):
+        cells, briefs = [], []
+        for device in ("iCE40", "ECP5"):
+            pair = figures.get((name, device, "dk")), figures.get((name, device, "hand"))
+            if pair[0] is None:
+                cells, briefs = ["does not fit", "–", "–", "–"], ["does not fit", "–", "–", "–"]
+                continue
+            cells += [beside(*both) for both in zip(*pair)]
+            briefs += [f"{own} / {other}" for own, other in list(zip(*pair))[:3]] + [f"{round(middle(pair[0][-1]))} / {round(middle(pair[1][-1]))}"]
+        rows.append(row(name, *cells))
+        short += [row(name, *briefs)] * ("," not in name)
+    source = ["python3 bench/hand/compare.py --cells, and --family ecp5; bench/hand/README.md has the figures"]
+    yield Part("docs/BENCH.md", source, rows, head="| Filter | iCE40 HX8K: LUT | FF |")
+    yield Part("README.md", source, short, head="| Filter | iCE40 HX8K: LUT |")
+    rates = [figures[name, "ECP5", "dk"][-1] for name in ("gaussian3", "sobel", "median")]
+    *_, multipliers, rate = figures["harris", "ECP5", "dk"]
+    yield Part("docs/CUT.md", source, ["`cut 1` of gaussian3, sobel and median reaches {}, {} and {} MHz on an ECP5-85".format(*rates),
+                                       f"Harris reaches {rate} MHz there with {multipliers} multipliers"])
+
+
+def placed(_):
+    """CUT and HARDWARE: what the tables of placed circuits in GALLERY have."""
+    text = page("docs/GALLERY.md")
+    today = {cells[0]: cells[1:] for cells in map(cells_of, text.split("### Today's texts")[1].splitlines()) if len(cells) == 5}
+    larger = {cells[1]: cells[2:] for cells in map(cells_of, text.split("### On an ECP5")[1].splitlines()) if cells[0] == "640 by 480"}
+    source = ["tools/place.py; docs/GALLERY.md, Today's texts and On an ECP5, has the figures"]
+    rates = {name: [cell.split(": ")[1][:-4] for cell in today[name]] for name in ("gaussian3", "sobel", "median")}
+    yield Part("docs/CUT.md", source, [row(name, *found, OPEN, OPEN) for name, found in rates.items()], head="| Program | `--block 32` | uncut |")
+    block, fast, _, cut = today["gaussian3"]
+    lines = [row("no options", *[OPEN] * 3), row("`--block 32`", block, *[OPEN] * 2), row("`--age 1 --block 32`", fast, larger["gaussian3"][0], OPEN),
+             row("`cut 1`, `--age 1 --block 32`", cut, larger["gaussian3"][1], OPEN), *[row(*[OPEN] * 4)] * 3]
+    yield Part("docs/HARDWARE.md", source, lines, head="| Text | iCE40 HX8K | ECP5-85 |")
+    yield Part("docs/HARDWARE.md", source, ["gaussian3 at 640 by 480 reaches {3} MHz on an iCE40 HX8K with `cut 1`, and {1} MHz uncut".format(*rates["gaussian3"]),
+                                            f"On an ECP5-85 `cut 1` reaches {larger['gaussian3'][1].split(': ')[1]}."])
+
+
+PARTS = [readme, typed, simulated, packed, columns, circuits, largest, cuts, pipelines, gallery, hand, placed]
 
 
 def parts(program, whole=True):
     """All parts, by a built program; not whole without what takes long."""
+    if not os.access(program, os.X_OK) or os.path.isdir(program):
+        sys.exit(f"{kept.TOOL}: {program}: not a program")
     with tempfile.TemporaryDirectory() as folder:
         dk = Measured(program, folder, whole)
         for made in PARTS:
