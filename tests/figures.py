@@ -15,23 +15,10 @@ sys.path.insert(0, os.path.join(TOP, "tools"))
 import figures  # noqa: E402
 
 
-def table(text, head):
-    """The rows of the first table at or after the line that begins so, without its head."""
-    lines = text.splitlines()
-    start = next((at for at, line in enumerate(lines) if line.startswith(head)), len(lines))
-    rule = next((at for at in range(start, len(lines)) if lines[at].startswith("|---")), len(lines))
-    found = []
-    for line in lines[rule + 1:]:
-        if not line.startswith("|"):
-            break
-        found.append(line)
-    return found
-
-
 def has_form(line, found):
     """Whether a row has these cells, where `..` is any one."""
-    return len(line.split("|")) == len(found.split("|")) and all(cell in (figures.OPEN, other) for cell, other in zip(
-        (cell.strip() for cell in line.split("|")), (cell.strip() for cell in found.split("|"))))
+    wanted, cells = figures.cells_of(line), figures.cells_of(found)
+    return len(wanted) == len(cells) and all(cell in (figures.OPEN, other) for cell, other in zip(wanted, cells))
 
 
 def block(text, start):
@@ -47,7 +34,8 @@ def faults(part, text):
         return [f"the text has no line: {line}" for line in block(text, part.excerpt) if line not in part.lines] if part.excerpt in text else [f"no block {part.excerpt}"]
     if not part.head:
         return [f"no text: {line}" for line in part.lines if line not in text]
-    rows = table(text, part.head)
+    lines = text.splitlines()
+    rows = [lines[at] for at in figures.table(lines, part.head)]
     if len(rows) != len(part.lines):
         return [f"{len(rows)} rows, not {len(part.lines)}: {part.head}"]
     return [f"{found}, not: {line}" for line, found in zip(part.lines, rows) if not has_form(line, found)]
@@ -57,12 +45,9 @@ def main(words):
     whole, words = "--all" in words, [word for word in words if word != "--all"]
     if len(words) != 1 or words[0].startswith("-"):
         sys.exit(__doc__)
-    pages, count = {}, 0
+    count = 0
     for part in figures.parts(words[0], whole):
-        if part.page not in pages:
-            with open(os.path.join(TOP, part.page), encoding="utf-8") as file:
-                pages[part.page] = file.read()
-        for fault in faults(part, pages[part.page]):
+        for fault in faults(part, figures.page(part.page)):
             print(f"figures: {part.page}: {fault}")
             count += 1
     sys.exit(count > 0)

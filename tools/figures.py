@@ -1,10 +1,11 @@
 #!/usr/bin/env python3
 """Prints the figures of the documentation that a program dk computes: bits, latencies, arrays, registers, assigns, definitions, levels.
 
-usage: python3 tools/figures.py PROGRAM      PROGRAM is bin/dk or another built program
+usage: python3 tools/figures.py [--write] PROGRAM      PROGRAM is bin/dk or another built program
 
 Each part has the page, the commands, and then the lines that the page has: rows of a table, or sentences. A part of a line that no command
-of dk computes, as a clock rate, is `..`. tests/figures.py compares the lines with the pages.
+of dk computes, as a clock rate, is `..`. --write puts the rows into the tables of the pages, and prints only the sentences that a page
+has not. tests/figures.py compares the lines with the pages.
 """
 import os
 import re
@@ -234,7 +235,7 @@ def largest(dk):
         title = title.format(latency=dk.plan(f"{name}.dk")["latency"]) if "{" in title else title
         lines.append(row(f"`{name}`: {title}", assigns, registers, arrays, bits, f"{len(text):,} bytes", OPEN, OPEN))
     yield Part("docs/BENCH.md", ["python3 bench/compile/make.py", "dk compile NAME.dk p.v"], lines, head="| Program | Assigns | Registers | Arrays | Bits | Text |")
-    yield Part("docs/BENCH.md", ["wc -c <bin/dk"], ["bin/dk has {:,} bytes".format(os.path.getsize(os.path.join(TOP, "bin", "dk")))])
+    yield Part("docs/BENCH.md", ["wc -c <bin/dk"], [f"bin/dk has {os.path.getsize(os.path.join(TOP, 'bin', 'dk')) / 1e6:.1f} MB"])
 
 
 def cuts(dk):
@@ -372,10 +373,35 @@ def parts(program, whole=True):
             yield from made(dk)
 
 
+def table(lines, head):
+    """Where the rows of a table are: of the first one at or after the line that begins so, without its head."""
+    start = next((at for at, line in enumerate(lines) if line.startswith(head)), len(lines))
+    first = next((at + 1 for at in range(start, len(lines)) if lines[at].startswith("|---")), len(lines))
+    end = next((at for at in range(first, len(lines)) if not lines[at].startswith("|")), len(lines))
+    return range(first, end)
+
+
+def write(part):
+    """Puts the rows of a part into its table; the cells that are open stay."""
+    lines = page(part.page).split("\n")
+    rows = table(lines, part.head)
+    if len(rows) != len(part.lines):
+        sys.exit(f"{kept.TOOL}: {part.page} has {len(rows)} rows, not {len(part.lines)}: {part.head}")
+    for at, line in zip(rows, part.lines):
+        lines[at] = row(*(old if new == OPEN else new for new, old in zip(cells_of(line), cells_of(lines[at]))))
+    with open(os.path.join(TOP, part.page), "w", encoding="utf-8") as file:
+        file.write("\n".join(lines))
+
+
 def main(words):
+    writes, words = words[:1] == ["--write"], [word for word in words if word != "--write"]
     if len(words) != 1 or words[0].startswith("-"):
         sys.exit(__doc__)
     for part in parts(words[0]):
+        if writes and part.head:
+            write(part)
+        if writes and (part.head or part.excerpt or all(line in page(part.page) for line in part.lines)):
+            continue
         print(f"{part.page}, by")
         print("".join(f"    {line}\n" for line in part.commands))
         print("\n".join([part.head] * bool(part.head) + part.lines) + "\n")
