@@ -83,7 +83,6 @@ HIDDEN = [
       ("ready | ~valid", "ready & seen | ~held"), ("valid <= 1'b0", "held <= 1'b0"), ("if (take) valid", "if (take) held")]),
     ("a full FIFO that takes a word if its consumer does", "one", [UNREACHED], "pair",
      [("room = ~full", "room = ~full | ready"), ("full <= ~take & (full | put)", "full <= ~take & (full | put) | full & put")]),
-    ("a word between frames that is taken only with the consumer", "one", [UNREACHED], "axis", [("between & go_on0;", "between & go_on0 & (room | m_axis_tready);")]),
     ("a flush that stops with the consumer", "one", [UNREACHED], "axis",
      [("flushed = flush & room", "flushed = flush & room & (m_axis_tready | ~m_axis_tvalid)"), ("if (room & count", "if (flushed & count")]),
 ]

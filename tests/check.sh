@@ -41,7 +41,7 @@ says() {
 leaves_nothing() {
     left=$(grep -lsz '^98765' /proc/[0-9]*/cmdline)
     [ -z "$left" ] || wrong "$1: a process is left"
-    # shellcheck disable=SC2086
+    # shellcheck disable=SC2046
     [ -z "$left" ] || kill -s KILL $(printf '%s\n' "$left" | cut -d / -f 3) 2>/dev/null
     [ -z "$(ls -A files)" ] || wrong "$1: files are left: $(ls -A files)"
 }
@@ -77,6 +77,7 @@ done
 
 # Counts, reasons, and a line for each part that fails. Odd names of the folder; and parts without tests of their own.
 newline=$(printf 'a\nb')
+# shellcheck disable=SC2016
 for name in plain "it's a folder" "$newline" -x 'a"$(b)' "$(printf '\377')"; do
     checkout "./$name" <<end
 # a comment

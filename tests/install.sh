@@ -221,7 +221,7 @@ refused() {
     everything root >before
     install_dk --dest root
     [ "$? $(wc -l <"$work/said")" = '1 1' ] && grep -qF "$1" "$work/said" || wrong "$1: $(cat "$work/said")"
-    everything root | diff before - || wrong "$1: not all is as it was"
+    everything root | cmp -s before - || wrong "$1: not all is as it was"
 }
 
 # Files of others are not replaced, and not removed.

@@ -1,6 +1,6 @@
 #!/usr/bin/env python3
 """Whether the table "A new operator" of docs/CHANGING.md lists each file that names an operator: `Binary::Max` in Rattle, `Max` of Binary in a
-definition or a proof. Prints each file that is missing there, and each that does not exist, and then ends with status 1.
+definition or a proof; its keyword, `Keyword::Max` or `Max` of Keyword; or its spelling, the bytes of `max`. Prints each file that is missing there, and each that does not exist, and then ends with status 1.
 
 usage: tests/operators.py
 """
@@ -12,8 +12,8 @@ from pathlib import Path
 TOP = Path(__file__).resolve().parent.parent
 PAGE, HEADING = "docs/CHANGING.md", "## A new operator\n"
 # a variant in code; an import of it, its whole name, or the arm of a match on it in an answer
-IN_CODE = re.compile(r"\bBinary::Max\b")
-IN_PROOF = re.compile(r"\bBinary\.TheVariants\.\{[^}]*\bMax\b|\bBinary\.Max\b|\bin-Max\b")
+IN_CODE = re.compile(r"\b(?:Binary|Keyword)::Max\b|\bb?\"max\"")
+IN_PROOF = re.compile(r"\b(?:Binary|Keyword)\.TheVariants\.\{[^}]*\bMax\b|\b(?:Binary|word)\.Max\b|\bin-Max\b|\bcodes \"max\"")
 
 
 def listed(page):
@@ -35,7 +35,7 @@ def naming():
     for path in sorted(path for folder in folders for path in folder.rglob("*") if path.is_file() and path != Path(__file__).resolve()):
         pattern = IN_PROOF if path.suffix == ".antt" else IN_CODE
         text = path.read_text(encoding="utf-8", errors="replace")
-        if "Max" in text and pattern.search(text):
+        if pattern.search(text):
             yield path.relative_to(TOP).as_posix()
 
 

@@ -169,6 +169,7 @@ while [ "$number" -lt 2500 ]; do
     : >"many/checkout/crates/low/src/$name$number.rt"
 done
 program many/checkout/bin/dk shipped
+# shellcheck disable=SC3045
 got=$(ulimit -s 1024 && many/checkout/dk plan 2>&1)
 [ "$got" = shipped ] || wrong "many files with a small stack: $got"
 mkdir few

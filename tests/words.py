@@ -34,6 +34,8 @@ WORDS = [
 # The pages that have none of these words. The list grows.
 DONE = """
 README.md
+docs/README.md
+docs/OTHER_TOOLS.md
 CHANGELOG.md
 docs/EDITORS.md
 docs/HARDWARE.md

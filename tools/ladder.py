@@ -409,9 +409,6 @@ def differences(found):
     for path in there():
         if path not in found:
             yield f"{os.path.relpath(path, TOP)} is no chapter's"
-    correct = load()[0]["Rattle.dk_compile.specs.Correct"].defined["IsCorrect"].text
-    if correct not in open(os.path.join(TOP, "README.md"), encoding="utf-8").read():
-        yield "README.md does not quote IsCorrect as it is"
     for path, text in found.items():
         if not os.path.exists(path):
             yield f"{os.path.relpath(path, TOP)} is missing"
