@@ -29,10 +29,10 @@ is_noted() {
 }
 
 # can_note: this user may write build/known, and all files are on file systems of this machine, which show each change at once. `stat` asks the
-# system for the kinds; `find` would need /proc.
+# system for the kind of each device; `find` would need /proc.
 can_note() {
     { [ -w build ] || { [ ! -e build ] && [ -w . ]; }; } || return
-    kinds=$(listed -print0 | xargs -0 stat -f -c %T -- | sort -u)
+    kinds=$(listed -printf '%D %p\0' | LC_ALL=C sort -z -u -k 1,1 | cut -z -d ' ' -f 2- | xargs -0 stat -f -c %T --)
     for kind in ${kinds:-none}; do
         case $kind in
         ext2 | ext2/ext3 | xfs | btrfs | f2fs | zfs | tmpfs | overlayfs) ;;
@@ -62,21 +62,28 @@ choose() {
     return 1
 }
 
-# wait_for_others: one call sums at a time, and the others wait for what it notes. The descriptor 8 is crates.txt, open for reading: a lock on it
+# is_noted_by_other: one call sums at a time, and the others wait for what it notes. The descriptor 8 is crates.txt, open for reading: a lock on it
 # needs no file of its own, and the system takes it back from a call that is ended. Without `flock` no call waits.
-wait_for_others() {
-    flock -w "$patience" 8 && { is_noted || { now=$(digest) && is_noted; }; }
+is_noted_by_other() {
+    if flock -n 8; then
+        is_noted
+    else
+        flock -w "$patience" 8 && { is_noted || { now=$(digest) && is_noted; }; }
+    fi
 } 2>/dev/null
 
 # find_program: prints the program
 find_program() {
+    ! is_noted_by_other || {
+        echo "$program"
+        return
+    }
     is_notable=
     if can_note 2>/dev/null; then
         is_notable=yes
-        ! wait_for_others || {
-            echo "$program"
-            return
-        }
+    else
+        # (nobody need wait for a call that notes nothing)
+        flock -u 8 2>/dev/null
     fi
     . tools/sources.sh
     begun=$(date +%s 2>/dev/null)
