@@ -247,12 +247,6 @@ input_type [] images k lt = absurd (let e : ⊥ = omega (arith, lt) in e)
 input_type (i ∷ inputs) images zero lt = refl
 input_type (i ∷ inputs) images (suc k) lt = input_type inputs images k (let h : k < length inputs = omega (arith, lt) in h)
 
-pub din_there : (b : Netlist) (p : Program) → Includes b (ports_of p b.enable) → (k : ℕ) → k < length p.inputs → first_din b + k < length b.inputs
-din_there b p ports k lt =
-    let dins = map (λ i. bits_of_type i.ty) p.inputs in
-    let long : length dins ≡ length p.inputs = length-map p.inputs _ in
-    subst (λ (xs : List ℕ). first_din b + k < length xs) (sym ports.inputs) (port_of b.enable dins k (omega (arith, lt, long))).0
-
 pub din_wide : (b : Netlist) (p : Program) → Includes b (ports_of p b.enable) → (k : ℕ) → k < length p.inputs → net_width b (din_net b k) ≡ bits_of_type (type_at p k)
 din_wide b p ports k lt =
     let dins = map (λ i. bits_of_type i.ty) p.inputs in

@@ -128,16 +128,6 @@ but_swap b g k free but = but_among b (g ∷ (k ∷ free)) (k ∷ (g ∷ free)) 
     swapped h (suc zero, l, e) = (zero, omega arith, e)
     swapped h (suc (suc n), l, e) = (suc (suc n), omega (arith, l), e)
 
-pub but_empty : (b : Netlist) → b.regs ≡ [] → b.arrays ≡ [] → UpdatedBut b []
-but_empty b regs arrays (OfNet (Input k)) d = absurd d
-but_empty b regs arrays (OfNet (Output k)) d = absurd d
-but_empty b regs arrays (OfNet (Wire k)) d = absurd d
-but_empty b regs arrays (OfNet (Reg k)) d = absurd (omega (arith, d, ap length regs))
-but_empty b regs arrays (OfArray x) d = absurd (omega (arith, d, ap length arrays))
-
-pub but_none : (b : Netlist) → AllUpdated b → UpdatedBut b []
-but_none b all h d = inr (all h d)
-
 pub all_updated : (b : Netlist) → UpdatedBut b [] → AllUpdated b
 all_updated b h g d = elim (h g d) as (λ _. HasUpdate b g) [ inl c ↦ absurd (none c) | inr u ↦ u ]
   where
