@@ -54,3 +54,6 @@ def main():
     for item in sorted(found):
         print(f"crates/{item} is cited by nothing")
     return 1 if found else 0
+
+
+sys.exit(main())
