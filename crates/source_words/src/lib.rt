@@ -3,4 +3,4 @@
 
 mod word;
 
-pub use word::{Keyword, find_keyword, is_name, read_type};
+pub use word::{KEYWORDS, Keyword, find_keyword, is_name, read_type, spellings_law};

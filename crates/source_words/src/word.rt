@@ -1,10 +1,10 @@
 // The words of the source language.
 
-ghost use Rattle.std.specs.Prelude.{◌≡◌, ◌≤◌, length};
-ghost use Rattle.dk_base.specs.Ascii.{is_letter as letter, is_word_byte as word_byte};
-ghost use Rattle.std.specs.List.{prefix_len};
+ghost use Rattle.std.specs.Prelude.{◌≡◌, Some};
+ghost use Rattle.std.specs.List.{find};
 ghost use Rattle.std.specs.Str.{bytes_eq};
-ghost use Rattle.source_words.specs.Words.{is_word as word, keyword_of, width_of, type_of_word, is_name as name};
+ghost use Rattle.source_words.specs.declared.word.Keyword.{Keyword};
+ghost use Rattle.source_words.specs.Words.{is_word as word, spelling_of, is_function as names_function, keyword_of, width_of, type_of_word, is_name as name};
 
 use dk_base::{MAX_NAME_BYTES, MAX_WIDTH, Ty, is_letter, word_length};
 
@@ -30,54 +30,100 @@ pub enum Keyword {
     Clamp,
 }
 
-fn same(left: &[u8], right: &[u8]) -> bool
-    ensures { result ≡ bytes_eq left.now right.now }
+/// The reserved words, in the order of the grammar's list.
+pub const KEYWORDS: [Keyword; 17] = [
+    Keyword::Size,
+    Keyword::Input,
+    Keyword::Let,
+    Keyword::Inline,
+    Keyword::Im,
+    Keyword::End,
+    Keyword::Output,
+    Keyword::As,
+    Keyword::Select,
+    Keyword::Min,
+    Keyword::Max,
+    Keyword::Abs,
+    Keyword::Sat,
+    Keyword::X,
+    Keyword::Y,
+    Keyword::Edge,
+    Keyword::Clamp,
+];
+
+impl Keyword {
+    /// Its bytes in a text.
+    pub fn spelling(self) -> &'static str
+        ensures { result.now ≡ spelling_of self }
+    {
+        match self {
+            Keyword::Size => "size",
+            Keyword::Input => "input",
+            Keyword::Let => "let",
+            Keyword::Inline => "inline",
+            Keyword::Im => "im",
+            Keyword::End => "end",
+            Keyword::Output => "output",
+            Keyword::As => "as",
+            Keyword::Select => "select",
+            Keyword::Min => "min",
+            Keyword::Max => "max",
+            Keyword::Abs => "abs",
+            Keyword::Sat => "sat",
+            Keyword::X => "x",
+            Keyword::Y => "y",
+            Keyword::Edge => "edge",
+            Keyword::Clamp => "clamp",
+        }
+    }
+
+    /// Whether it names an operator with its operands in brackets.
+    pub fn is_function(self) -> bool
+        ensures { result ≡ names_function self }
+    {
+        match self {
+            Keyword::Size => false,
+            Keyword::Input => false,
+            Keyword::Let => false,
+            Keyword::Inline => false,
+            Keyword::Im => false,
+            Keyword::End => false,
+            Keyword::Output => false,
+            Keyword::As => false,
+            Keyword::Select => true,
+            Keyword::Min => true,
+            Keyword::Max => true,
+            Keyword::Abs => true,
+            Keyword::Sat => true,
+            Keyword::X => false,
+            Keyword::Y => false,
+            Keyword::Edge => false,
+            Keyword::Clamp => false,
+        }
+    }
+}
+
+// The first of these reserved words with these bytes.
+fn among(words: &[Keyword], bytes: &[u8]) -> Option<Keyword>
+    ensures { result ≡ find (λ k. bytes_eq bytes.now (spelling_of k)) words.now }
 {
-    left == right
+    words
+        .iter()
+        .copied()
+        .find(|word| bytes == word.spelling().as_bytes())
 }
 
 /// The reserved word with these bytes.
 pub fn find_keyword(bytes: &[u8]) -> Option<Keyword>
     ensures { result ≡ keyword_of bytes.now }
 {
-    if same(bytes, b"size") {
-        Some(Keyword::Size)
-    } else if same(bytes, b"input") {
-        Some(Keyword::Input)
-    } else if same(bytes, b"let") {
-        Some(Keyword::Let)
-    } else if same(bytes, b"inline") {
-        Some(Keyword::Inline)
-    } else if same(bytes, b"im") {
-        Some(Keyword::Im)
-    } else if same(bytes, b"end") {
-        Some(Keyword::End)
-    } else if same(bytes, b"output") {
-        Some(Keyword::Output)
-    } else if same(bytes, b"as") {
-        Some(Keyword::As)
-    } else if same(bytes, b"select") {
-        Some(Keyword::Select)
-    } else if same(bytes, b"min") {
-        Some(Keyword::Min)
-    } else if same(bytes, b"max") {
-        Some(Keyword::Max)
-    } else if same(bytes, b"abs") {
-        Some(Keyword::Abs)
-    } else if same(bytes, b"sat") {
-        Some(Keyword::Sat)
-    } else if same(bytes, b"x") {
-        Some(Keyword::X)
-    } else if same(bytes, b"y") {
-        Some(Keyword::Y)
-    } else if same(bytes, b"edge") {
-        Some(Keyword::Edge)
-    } else if same(bytes, b"clamp") {
-        Some(Keyword::Clamp)
-    } else {
-        None
-    }
+    among(&KEYWORDS, bytes)
 }
+
+/// Each reserved word is read as itself, so the list has each.
+pub fn spellings_law()
+    ensures { (k : Keyword) → keyword_of (spelling_of k) ≡ Some k }
+{}
 
 // 1 to 64 in decimal, without a leading zero.
 fn width(digits: &[u8]) -> Option<u8>
