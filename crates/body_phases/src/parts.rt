@@ -1,7 +1,7 @@
 // A body as its tokens and its reads.
 
 use crate::reads::reads_of;
-use crate::tokens::{after_read, begins_read, has_gap, is_word_at};
+use crate::tokens::{after_read, begins_read, has_gap, is_end};
 use dk_base::{OutOfMemory, Span};
 use dk_lexer::Token;
 use dk_types::{TypedExpr, TypedRead};
@@ -48,7 +48,7 @@ pub(crate) fn parts_of(
     let mut passed: usize = 0;
     let mut next = start;
     for place in start..tokens.len() {
-        if is_word_at(tokens, place, b"end") {
+        if is_end(tokens, place) {
             break;
         }
         if place < next {

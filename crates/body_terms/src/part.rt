@@ -2,6 +2,7 @@
 
 use crate::words::{push_number, push_read, push_type};
 use dk_base::{Binary, Conversion, OutOfMemory, Scaling, Ty, Unary};
+use source_words::Keyword;
 use std::alloc::Global;
 
 /// The levels of precedence, from the highest.
@@ -40,7 +41,7 @@ struct Infix {
 // How an operator of two operands is written.
 #[derive(Clone, Copy)]
 enum Spelling {
-    Function(&'static str),
+    Function(Keyword),
     Between(Infix),
 }
 
@@ -69,36 +70,41 @@ fn operand(alloc: Global, part: Part, loosest: Binding) -> Result<Vec<u8>, OutOf
 pub fn number(alloc: Global, value: u64) -> Result<Part, OutOfMemory> {
     let mut text = Vec::new(alloc);
     push_number(&mut text, value)?;
-    Ok(Part {
-        text,
-        binding: Binding::Primary,
-        levels: None,
-    })
+    Ok(primary(text, None))
 }
 
 /// The read of a piece of the body.
 pub fn piece_read(alloc: Global, name: &[u8]) -> Result<Part, OutOfMemory> {
     let mut text = Vec::new(alloc);
     push_read(&mut text, name, 0, 0)?;
-    Ok(Part {
-        text,
-        binding: Binding::Primary,
-        levels: Some(0),
-    })
+    Ok(primary(text, Some(0)))
 }
 
-// A function of one operand.
-fn call(alloc: Global, word: &str, a: Part) -> Result<Part, OutOfMemory> {
+// An operator with its operands in brackets.
+fn function(
+    alloc: Global,
+    keyword: Keyword,
+    operands: &[&[u8]],
+) -> Result<Vec<u8>, OutOfMemory> {
     let mut text = Vec::new(alloc);
-    text.extend_from_slice(word.as_bytes())?;
-    text.push(b'(')?;
-    text.extend_from_slice(&a.text)?;
+    text.extend_from_slice(keyword.spelling().as_bytes())?;
+    let mut before: &[u8] = b"(";
+    for operand in operands {
+        text.extend_from_slice(before)?;
+        text.extend_from_slice(operand)?;
+        before = b", ";
+    }
     text.push(b')')?;
-    Ok(Part {
+    Ok(text)
+}
+
+// A primary expression.
+fn primary(text: Vec<u8>, levels: Option<u32>) -> Part {
+    Part {
         text,
         binding: Binding::Primary,
-        levels: a.levels,
-    })
+        levels,
+    }
 }
 
 fn prefixed(alloc: Global, sign: u8, a: Part) -> Result<Part, OutOfMemory> {
@@ -119,24 +125,11 @@ pub fn unary(alloc: Global, operator: Unary, a: Part) -> Result<Part, OutOfMemor
     match operator {
         Unary::Negate => prefixed(alloc, b'-', a),
         Unary::Not => prefixed(alloc, b'!', a),
-        Unary::Abs => call(alloc, "abs", a),
+        Unary::Abs => {
+            let text = function(alloc, Keyword::Abs, &[&a.text])?;
+            Ok(primary(text, a.levels))
+        }
     }
-}
-
-// A function of two operands.
-fn pair(alloc: Global, word: &str, a: Part, b: Part) -> Result<Part, OutOfMemory> {
-    let mut text = Vec::new(alloc);
-    text.extend_from_slice(word.as_bytes())?;
-    text.push(b'(')?;
-    text.extend_from_slice(&a.text)?;
-    text.extend_from_slice(b", ")?;
-    text.extend_from_slice(&b.text)?;
-    text.push(b')')?;
-    Ok(Part {
-        text,
-        binding: Binding::Primary,
-        levels: most_levels(a.levels, b.levels),
-    })
 }
 
 // An operator whose operands group to the left.
@@ -173,8 +166,8 @@ fn spelling_of(operator: Binary) -> Spelling {
         Binary::And => grouping(" & ", Binding::And, Binding::Shift),
         Binary::Or => grouping(" | ", Binding::Or, Binding::Xor),
         Binary::Xor => grouping(" ^ ", Binding::Xor, Binding::And),
-        Binary::Min => Spelling::Function("min"),
-        Binary::Max => Spelling::Function("max"),
+        Binary::Min => Spelling::Function(Keyword::Min),
+        Binary::Max => Spelling::Function(Keyword::Max),
     }
 }
 
@@ -194,7 +187,10 @@ fn between(alloc: Global, infix: Infix, a: Part, b: Part) -> Result<Part, OutOfM
 /// An operator and its operands.
 pub fn binary(alloc: Global, operator: Binary, a: Part, b: Part) -> Result<Part, OutOfMemory> {
     match spelling_of(operator) {
-        Spelling::Function(word) => pair(alloc, word, a, b),
+        Spelling::Function(keyword) => {
+            let text = function(alloc, keyword, &[&a.text, &b.text])?;
+            Ok(primary(text, most_levels(a.levels, b.levels)))
+        }
         Spelling::Between(infix) => between(alloc, infix, a, b),
     }
 }
@@ -240,17 +236,10 @@ fn cast(alloc: Global, a: Part, ty: Ty) -> Result<Part, OutOfMemory> {
 }
 
 fn saturated(alloc: Global, a: Part, ty: Ty) -> Result<Part, OutOfMemory> {
-    let mut text = Vec::new(alloc);
-    text.extend_from_slice(b"sat(")?;
-    text.extend_from_slice(&a.text)?;
-    text.extend_from_slice(b", ")?;
-    push_type(&mut text, ty)?;
-    text.push(b')')?;
-    Ok(Part {
-        text,
-        binding: Binding::Primary,
-        levels: a.levels,
-    })
+    let mut word = Vec::new(alloc);
+    push_type(&mut word, ty)?;
+    let text = function(alloc, Keyword::Sat, &[&a.text, &word])?;
+    Ok(primary(text, a.levels))
 }
 
 /// A conversion of an operand.
@@ -263,17 +252,7 @@ pub fn converted(alloc: Global, how: Conversion, a: Part, ty: Ty) -> Result<Part
 
 /// A choice.
 pub fn selected(alloc: Global, c: Part, a: Part, b: Part) -> Result<Part, OutOfMemory> {
-    let mut text = Vec::new(alloc);
-    text.extend_from_slice(b"select(")?;
-    text.extend_from_slice(&c.text)?;
-    text.extend_from_slice(b", ")?;
-    text.extend_from_slice(&a.text)?;
-    text.extend_from_slice(b", ")?;
-    text.extend_from_slice(&b.text)?;
-    text.push(b')')?;
-    Ok(Part {
-        text,
-        binding: Binding::Primary,
-        levels: most_levels(c.levels, most_levels(a.levels, b.levels)),
-    })
+    let text = function(alloc, Keyword::Select, &[&c.text, &a.text, &b.text])?;
+    let levels = most_levels(c.levels, most_levels(a.levels, b.levels));
+    Ok(primary(text, levels))
 }

@@ -1,12 +1,8 @@
 -- The lines that endings write to Fault, and their exit statuses.
 use Rattle.std.specs.Prelude.{ℕ, ℤ, List, [], ◌++◌, codes, decimal}
 use Rattle.std.specs.Fmt.{signed_decimal}
-use Rattle.dk_base.specs.declared.TheConstants.{MAX_SOURCE_BYTES, MAX_HEADER_BYTES, MAX_FILE_IMAGES, MAX_PGM_BYTES, MAX_VERILOG_BYTES, MAX_REPORT_BYTES}
+use Rattle.dk_base.specs.declared.TheConstants.{MAX_HEADER_BYTES, MAX_FILE_IMAGES, MAX_PGM_BYTES, MAX_VERILOG_BYTES, MAX_REPORT_BYTES}
 use Rattle.dk_base.specs.declared.span.Span.{Span}
-use Rattle.dk_lexer.specs.declared.fault.LexKind.{LexKind}
-use Rattle.dk_lexer.specs.declared.fault.LexKind.TheVariants as lexer
-use Rattle.dk_types.specs.declared.fault.TypeFaultKind.{TypeFaultKind}
-use Rattle.dk_types.specs.declared.fault.TypeFaultKind.TheVariants as types
 use Rattle.pgm_rounds.specs.declared.fault.FileFault.{FileFault}
 use Rattle.pgm_rounds.specs.declared.fault.FileFault.TheVariants as file
 use Rattle.verilog_text.specs.declared.token.LexKind.{LexKind as TokenKind}
@@ -18,7 +14,9 @@ use Rattle.stimulus.specs.declared.stop.Stop.TheVariants as stop
 use Rattle.dk_endings.specs.declared.ending.Ending.{Ending}
 use Rattle.dk_endings.specs.declared.ending.Ending.TheVariants as ending
 use Rattle.source_fault.specs.declared.fault.SourceFault.{SourceFault}
-use Rattle.source_fault.specs.declared.fault.SourceFault.TheVariants as source
+use Rattle.source_fault.specs.declared.fault.Subject.{Subject}
+use Rattle.source_fault.specs.declared.fault.Subject.TheVariants as subject
+use Rattle.source_fault.specs.Faults.{word_of, subject_of}
 use Rattle.source_fault.specs.declared.widen.WidenFault.{WidenFault}
 use Rattle.source_fault.specs.declared.widen.WidenFault.TheVariants as widen
 use Rattle.dk_endings.specs.declared.ending.ImageFault.{ImageFault}
@@ -29,30 +27,6 @@ use Rattle.dk_endings.specs.declared.verilog.VerilogFault.{VerilogFault}
 use Rattle.dk_endings.specs.declared.verilog.VerilogFault.TheVariants as verilog
 use Rattle.dk_endings.specs.declared.verilog.VerilogKind.{VerilogKind}
 use Rattle.dk_endings.specs.declared.verilog.VerilogKind.TheVariants as kind
-
--- what is wrong with a token
-abbrev pub lexer_kind : LexKind → List ℕ
-lexer_kind lexer.BadByte = codes "BadByte"
-lexer_kind lexer.NumberTooGreat = codes "NumberTooGreat"
-lexer_kind lexer.NameTooLong = codes "NameTooLong"
-
--- what is wrong with a program's names and types
-abbrev pub types_kind : TypeFaultKind → List ℕ
-types_kind types.SizeRange = codes "SizeRange"
-types_kind types.InputType = codes "InputType"
-types_kind types.TooManyInputs = codes "TooManyInputs"
-types_kind types.TooManyOutputs = codes "TooManyOutputs"
-types_kind types.TooManyImages = codes "TooManyImages"
-types_kind types.DuplicateName = codes "DuplicateName"
-types_kind types.UnknownImage = codes "UnknownImage"
-types_kind types.OffsetRange = codes "OffsetRange"
-types_kind types.WidthTooGreat = codes "WidthTooGreat"
-types_kind types.NotOneBit = codes "NotOneBit"
-types_kind types.SignedBits = codes "SignedBits"
-types_kind types.ZeroDivisor = codes "ZeroDivisor"
-types_kind types.ShiftRange = codes "ShiftRange"
-types_kind types.NotConvertible = codes "NotConvertible"
-types_kind types.OutputType = codes "OutputType"
 
 -- a line that ends in a number, or in two
 abbrev pub numbered : List ℕ → ℕ → List ℕ
@@ -65,18 +39,17 @@ twice_numbered front first second = front ++ decimal first ++ codes " " ++ decim
 abbrev pub spanned : List ℕ → Span → List ℕ → List ℕ
 spanned front span kind = front ++ decimal span.start ++ codes "-" ++ decimal span.stop ++ codes ": " ++ kind ++ codes "\n"
 
+-- a number of a whole program, which is over a limit
+abbrev pub counted : List ℕ → ℕ → List ℕ
+counted word number = codes "program: " ++ word ++ codes " " ++ decimal number ++ codes "\n"
+
+-- the line of a fault of a program's text: its word, after the bytes at fault or before the number that is over a limit
+abbrev pub subject_line : List ℕ → Subject → List ℕ
+subject_line word (subject.Bytes span) = spanned (codes "program ") span word
+subject_line word (subject.Number number) = counted word number
+
 abbrev pub source_line : SourceFault → List ℕ
-source_line source.TooLong = numbered (codes "program: TooLong ") MAX_SOURCE_BYTES
-source_line (source.Lex fault) = spanned (codes "program ") fault.span (lexer_kind fault.kind)
-source_line (source.Nest span) = spanned (codes "program ") span (codes "Nest")
-source_line (source.Syntax span) = spanned (codes "program ") span (codes "Syntax")
-source_line (source.Depth span) = spanned (codes "program ") span (codes "Depth")
-source_line (source.Types fault) = spanned (codes "program ") fault.span (types_kind fault.kind)
-source_line (source.Nodes count) = numbered (codes "program: Nodes ") count
-source_line (source.InlineDepth span) = spanned (codes "program ") span (codes "InlineDepth")
-source_line (source.Reads count) = numbered (codes "program: Reads ") count
-source_line (source.Bits least) = numbered (codes "program: Bits ") least
-source_line (source.Latency clocks) = numbered (codes "program: Latency ") clocks
+source_line fault = subject_line (word_of fault) (subject_of fault)
 
 abbrev pub file_line : FileFault → List ℕ
 file_line (file.Magic offset) = numbered (codes "image: Magic ") offset

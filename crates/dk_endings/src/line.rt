@@ -2,20 +2,17 @@
 
 ghost use Rattle.std.specs.Prelude.{◌≡◌, ◌≤◌, ◌+◌, ◌<◌, ◌++◌, length, decimal};
 ghost use Rattle.std.specs.Fmt.{signed_decimal};
-ghost use Rattle.dk_endings.specs.Lines.{lexer_kind as lexer_word, types_kind as types_word, spanned as spanned_text, numbered as numbered_text, twice_numbered as twice_numbered_text, fault_line, source_line as line_of_source, file_line as line_of_file, token_kind as token_word, limit_kind as limit_word, verilog_kind as verilog_word, verilog_line as line_of_verilog, index_line as index_text, count_line as count_text, stop_line as line_of_stop, report_line as line_of_report, widen_fault_line as line_of_widen, holds_line as holds_text};
+ghost use Rattle.dk_endings.specs.Lines.{spanned as spanned_text, numbered as numbered_text, twice_numbered as twice_numbered_text, fault_line, counted as counted_text, source_line as line_of_source, file_line as line_of_file, token_kind as token_word, limit_kind as limit_word, verilog_kind as verilog_word, verilog_line as line_of_verilog, index_line as index_text, count_line as count_text, stop_line as line_of_stop, report_line as line_of_report, widen_fault_line as line_of_widen, holds_line as holds_text};
 
 use crate::ending::{Ending, ImageFault, ReportFault};
 use crate::verilog::{VerilogFault, VerilogKind};
 use arrayvec::ArrayString;
 use dk_base::{
-    MAX_FILE_IMAGES, MAX_HEADER_BYTES, MAX_PGM_BYTES, MAX_REPORT_BYTES, MAX_SOURCE_BYTES,
-    MAX_VERILOG_BYTES, Span,
+    MAX_FILE_IMAGES, MAX_HEADER_BYTES, MAX_PGM_BYTES, MAX_REPORT_BYTES, MAX_VERILOG_BYTES, Span,
 };
-use dk_lexer::LexKind;
-use dk_types::TypeFaultKind;
 use itoa::Buffer;
 use pgm_rounds::FileFault;
-use source_fault::{SourceFault, WidenFault};
+use source_fault::{SourceFault, Subject, WidenFault};
 use stimulus::Stop;
 use verilog_text::{LexKind as TokenKind, LimitKind};
 
@@ -85,55 +82,25 @@ fn spanned(before: &str, span: Span, kind: &str) -> Line
     line
 }
 
-fn lexer_kind(kind: LexKind) -> &'static str
-    ensures is { result.now ≡ lexer_word kind }
-    ensures short { length result.now ≤ 20 }
+// A line on a number of a whole program.
+fn counted(word: &str, number: u64) -> Line
+    requires { length word.now ≤ 20 }
+    ensures { result.bytes ≡ counted_text word.now number }
 {
-    match kind {
-        LexKind::BadByte => "BadByte",
-        LexKind::NumberTooGreat => "NumberTooGreat",
-        LexKind::NameTooLong => "NameTooLong",
-    }
+    let mut line = plain("program: ");
+    line.push_str(word);
+    line.push_str(" ");
+    push_number(&mut line, u128::from(number));
+    line.push_str("\n");
+    line
 }
 
-fn types_kind(kind: TypeFaultKind) -> &'static str
-    ensures is { result.now ≡ types_word kind }
-    ensures short { length result.now ≤ 20 }
+fn source_line(fault: SourceFault) -> Line
+    ensures { result.bytes ≡ line_of_source fault }
 {
-    match kind {
-        TypeFaultKind::SizeRange => "SizeRange",
-        TypeFaultKind::InputType => "InputType",
-        TypeFaultKind::TooManyInputs => "TooManyInputs",
-        TypeFaultKind::TooManyOutputs => "TooManyOutputs",
-        TypeFaultKind::TooManyImages => "TooManyImages",
-        TypeFaultKind::DuplicateName => "DuplicateName",
-        TypeFaultKind::UnknownImage => "UnknownImage",
-        TypeFaultKind::OffsetRange => "OffsetRange",
-        TypeFaultKind::WidthTooGreat => "WidthTooGreat",
-        TypeFaultKind::NotOneBit => "NotOneBit",
-        TypeFaultKind::SignedBits => "SignedBits",
-        TypeFaultKind::ZeroDivisor => "ZeroDivisor",
-        TypeFaultKind::ShiftRange => "ShiftRange",
-        TypeFaultKind::NotConvertible => "NotConvertible",
-        TypeFaultKind::OutputType => "OutputType",
-    }
-}
-
-fn source_line(fault: &SourceFault) -> Line
-    ensures { result.bytes ≡ line_of_source fault.now }
-{
-    match fault {
-        SourceFault::TooLong => numbered("program: TooLong ", MAX_SOURCE_BYTES as u128),
-        SourceFault::Lex(fault) => spanned("program ", fault.span, lexer_kind(fault.kind)),
-        SourceFault::Nest { span } => spanned("program ", *span, "Nest"),
-        SourceFault::Syntax { span } => spanned("program ", *span, "Syntax"),
-        SourceFault::Depth { span } => spanned("program ", *span, "Depth"),
-        SourceFault::Types(fault) => spanned("program ", fault.span, types_kind(fault.kind)),
-        SourceFault::Nodes { count } => numbered("program: Nodes ", u128::from(*count)),
-        SourceFault::InlineDepth { span } => spanned("program ", *span, "InlineDepth"),
-        SourceFault::Reads { count } => numbered("program: Reads ", u128::from(*count)),
-        SourceFault::Bits { least } => numbered("program: Bits ", u128::from(*least)),
-        SourceFault::Latency { clocks } => numbered("program: Latency ", u128::from(*clocks)),
+    match fault.subject() {
+        Subject::Bytes(span) => spanned("program ", span, fault.word()),
+        Subject::Number(number) => counted(fault.word(), number),
     }
 }
 
@@ -303,7 +270,7 @@ impl Ending {
             Ending::Usage => plain(
                 "usage: run [--age K] PROG IN OUT | compile [--enable] [--age K] [--block N] PROG OUT | nets [--enable] [--age K] [--block N] PROG | plan [--age K] PROG | sim VERILOG CLOCKS IN OUT [--fill FILL] [--hold K] | eval PROG IN OUT | make N | check PROG REPORT | trace VERILOG CLOCKS IN VCD | cut N PROG OUT | narrow PROG OUT | widen P PROG OUT | explain PROG\n",
             ),
-            Ending::Source(fault) => source_line(fault),
+            Ending::Source(fault) => source_line(*fault),
             Ending::Image(ImageFault::TooLong) => {
                 numbered("image: TooLong ", MAX_PGM_BYTES as u128)
             }

@@ -2,3 +2,4 @@ pub mod Bytes
 pub mod Lexis
 pub mod Answer
 pub mod Faithful
+pub mod Words

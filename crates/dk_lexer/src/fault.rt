@@ -1,6 +1,7 @@
 // Why a text has no tokens.
 
-ghost use Rattle.std.specs.Prelude.{◌≡◌};
+ghost use Rattle.std.specs.Prelude.{◌≡◌, ◌≤◌, length};
+ghost use Rattle.dk_lexer.specs.Words.{word_of};
 
 use dk_base::Span;
 use std::alloc::{AllocError, AllocFailed};
@@ -14,6 +15,20 @@ pub enum LexKind {
     NumberTooGreat,
     /// A word of more than 64 bytes.
     NameTooLong,
+}
+
+impl LexKind {
+    /// Its word, in the line of the fault and in messages.
+    pub fn word(self) -> &'static str
+        ensures is { result.now ≡ word_of self }
+        ensures short { length result.now ≤ 20 }
+    {
+        match self {
+            LexKind::BadByte => "BadByte",
+            LexKind::NumberTooGreat => "NumberTooGreat",
+            LexKind::NameTooLong => "NameTooLong",
+        }
+    }
 }
 
 /// What is wrong with a text, and where.

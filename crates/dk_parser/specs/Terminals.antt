@@ -1,5 +1,5 @@
 -- What the grammar sees of a token.
-use Rattle.std.specs.Prelude.{ℕ, List, Option, Some, None}
+use Rattle.std.specs.Prelude.{ℕ, List, Option, Some, None, slice_get}
 use Rattle.dk_base.specs.declared.ty.Ty.{Ty}
 use Rattle.source_words.specs.declared.word.Keyword.{Keyword}
 use Rattle.source_words.specs.Words.{keyword_of, type_of_word}
@@ -26,3 +26,11 @@ terminal_of End = EndOfText
 
 abbrev pub terminal : Token → Terminal
 terminal tok = terminal_of tok.kind
+
+-- what the grammar sees of the token at a place: the end of the text if there is none
+abbrev pub terminal_of_found : Option Token → Terminal
+terminal_of_found None = EndOfText
+terminal_of_found (Some tok) = terminal tok
+
+abbrev pub terminal_at : List Token → ℕ → Terminal
+terminal_at tokens place = terminal_of_found (slice_get tokens place)

@@ -3,7 +3,7 @@
 ghost use Rattle.std.specs.Prelude.{◌≡◌, ◌<◌, [], MatchOption};
 ghost use Rattle.dk_parser.specs.Ahead.{IsAhead};
 ghost use Rattle.dk_parser.specs.Front.{IsFront, IsEdge, rank};
-ghost use Rattle.dk_parser.specs.Terminals.{terminal_of, terminal_of_word};
+ghost use Rattle.dk_parser.specs.Terminals.{terminal_of, terminal_of_word, terminal_at as terminal_of_place};
 ghost use Rattle.dk_parser.specs.Grammar.{binding as binding_of, start as start_of};
 
 use crate::terminal::Terminal;
@@ -83,6 +83,16 @@ pub(crate) fn terminal(token: &Token) -> Terminal
     }
 }
 
+/// What the grammar sees of the token at a place: the end of the text if there is none.
+pub fn terminal_at(tokens: &[Token], place: usize) -> Terminal
+    ensures { result ≡ terminal_of_place tokens.now place }
+{
+    match tokens.get(place) {
+        Some(token) => terminal(token),
+        None => Terminal::EndOfText,
+    }
+}
+
 // A reserved word, a type word or a name.
 fn word(bytes: &[u8]) -> Terminal
     ensures { result ≡ terminal_of_word bytes.now }
@@ -100,10 +110,23 @@ pub(crate) fn binding(terminal: Terminal) -> Binding
     ensures { result ≡ binding_of terminal }
 {
     match terminal {
-        Terminal::Keyword(Keyword::As) => Binding::Operator(1, Step::Type),
-        Terminal::Keyword(Keyword::Edge) => Binding::Clamps,
+        Terminal::Keyword(keyword) => keyword_binding(keyword),
         Terminal::Symbol(symbol) => symbol_binding(symbol),
         _ => Binding::Stops,
+    }
+}
+
+fn keyword_binding(keyword: Keyword) -> Binding
+    ensures { result ≡ binding_of (Terminal.Keyword keyword) }
+{
+    match keyword {
+        Keyword::As => Binding::Operator(1, Step::Type),
+        Keyword::Edge => Binding::Clamps,
+        Keyword::Size | Keyword::Input | Keyword::Let | Keyword::Inline => Binding::Stops,
+        Keyword::Im | Keyword::End | Keyword::Output => Binding::Stops,
+        Keyword::Select | Keyword::Min | Keyword::Max => Binding::Stops,
+        Keyword::Abs | Keyword::Sat => Binding::Stops,
+        Keyword::X | Keyword::Y | Keyword::Clamp => Binding::Stops,
     }
 }
 
@@ -139,11 +162,23 @@ pub(crate) fn start(terminal: Terminal) -> Start
         Terminal::Symbol(Symbol::Open) => Start::Bracket,
         Terminal::Number(value) => Start::Constant(value),
         Terminal::Name => Start::Image,
-        Terminal::Keyword(Keyword::Min) => Start::Pair(Binary::Min),
-        Terminal::Keyword(Keyword::Max) => Start::Pair(Binary::Max),
-        Terminal::Keyword(Keyword::Abs) => Start::Absolute,
-        Terminal::Keyword(Keyword::Sat) => Start::Saturate,
-        Terminal::Keyword(Keyword::Select) => Start::Choice,
+        Terminal::Keyword(keyword) => keyword_start(keyword),
         _ => Start::Nothing,
+    }
+}
+
+fn keyword_start(keyword: Keyword) -> Start
+    ensures { result ≡ start_of (Terminal.Keyword keyword) }
+{
+    match keyword {
+        Keyword::Min => Start::Pair(Binary::Min),
+        Keyword::Max => Start::Pair(Binary::Max),
+        Keyword::Abs => Start::Absolute,
+        Keyword::Sat => Start::Saturate,
+        Keyword::Select => Start::Choice,
+        Keyword::Size | Keyword::Input | Keyword::Let | Keyword::Inline => Start::Nothing,
+        Keyword::Im | Keyword::End | Keyword::Output => Start::Nothing,
+        Keyword::As | Keyword::Edge | Keyword::Clamp => Start::Nothing,
+        Keyword::X | Keyword::Y => Start::Nothing,
     }
 }

@@ -13,6 +13,7 @@ mod terminal;
 mod tree;
 mod whole;
 
+pub use classes::terminal_at;
 pub use terminal::{Mark, Terminal};
 pub use tree::{
     Def, Expr, ImageRead, Input, Literal, Name, Node, Offset, Program, Start, Step, TypeWord,

@@ -9,7 +9,8 @@ use Rattle.dk_endings.specs.declared.ending.Ending.{Ending}
 use Rattle.dk_endings.specs.declared.ending.Ending.TheVariants as ending
 use Rattle.dk_types.specs.declared.fault.TypeFault.{TypeFault}
 use Rattle.source_places.specs.Places.{is_line_end, begins_character, last_line, line_of, column_of}
-use Rattle.fault_messages.specs.Explanations.{head, kind_word, IsMessage, AreMessages, IsExplanation}
+use Rattle.source_fault.specs.Faults.{word_of}
+use Rattle.fault_messages.specs.Explanations.{head, IsMessage, AreMessages, IsExplanation}
 use Rattle.dk_top.specs.declared.commands.explaining.Judged.{Judged}
 use Rattle.dk_top.specs.declared.commands.explaining.Judged.TheVariants.{Accepted, Refused}
 use Rattle.dk_top.specs.declared.commands.explaining.Refusal.{Refusal}
@@ -69,8 +70,8 @@ module _ (name text : List ℕ) where
   long_message bytes (detail, is, e) = (
     detail,
     is,
-    subst (λ c. bytes ≡ head name (line_of text 0) c (kind_word source.TooLong) ++ detail) first_column
-        (subst (λ l. bytes ≡ head name l (column_of [] 0) (kind_word source.TooLong) ++ detail) first_line e),
+    subst (λ c. bytes ≡ head name (line_of text 0) c (word_of source.TooLong) ++ detail) first_column
+        (subst (λ l. bytes ≡ head name l (column_of [] 0) (word_of source.TooLong) ++ detail) first_line e),
   )
 
   long_messages : (others : List TypeFault) (bytes : List ℕ) → others ≡ [] → AreMessages name [] (source.TooLong ∷ map source.Types others) bytes → AreMessages name text (source.TooLong ∷ map source.Types others) bytes

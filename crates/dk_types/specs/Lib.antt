@@ -9,3 +9,4 @@ pub mod Found
 pub mod Kept
 pub mod Meaning
 pub mod Reads
+pub mod Words

@@ -1,7 +1,8 @@
 // Why a program has no types.
 
-ghost use Rattle.std.specs.Prelude.{◌≡◌};
+ghost use Rattle.std.specs.Prelude.{◌≡◌, ◌≤◌, length};
 ghost use Rattle.dk_types.specs.declared.fault.TypeError.TheVariants.{OutOfMemory};
+ghost use Rattle.dk_types.specs.Words.{word_of};
 
 use dk_base::Span;
 use std::alloc::{AllocError, AllocFailed};
@@ -39,6 +40,32 @@ pub enum TypeFaultKind {
     NotConvertible,
     /// An output of another type than `u1` to `u16`.
     OutputType,
+}
+
+impl TypeFaultKind {
+    /// Its word, in the line of the fault and in messages.
+    pub fn word(self) -> &'static str
+        ensures is { result.now ≡ word_of self }
+        ensures short { length result.now ≤ 20 }
+    {
+        match self {
+            TypeFaultKind::SizeRange => "SizeRange",
+            TypeFaultKind::InputType => "InputType",
+            TypeFaultKind::TooManyInputs => "TooManyInputs",
+            TypeFaultKind::TooManyOutputs => "TooManyOutputs",
+            TypeFaultKind::TooManyImages => "TooManyImages",
+            TypeFaultKind::DuplicateName => "DuplicateName",
+            TypeFaultKind::UnknownImage => "UnknownImage",
+            TypeFaultKind::OffsetRange => "OffsetRange",
+            TypeFaultKind::WidthTooGreat => "WidthTooGreat",
+            TypeFaultKind::NotOneBit => "NotOneBit",
+            TypeFaultKind::SignedBits => "SignedBits",
+            TypeFaultKind::ZeroDivisor => "ZeroDivisor",
+            TypeFaultKind::ShiftRange => "ShiftRange",
+            TypeFaultKind::NotConvertible => "NotConvertible",
+            TypeFaultKind::OutputType => "OutputType",
+        }
+    }
 }
 
 /// What is wrong with a program, and where.

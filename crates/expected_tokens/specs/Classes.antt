@@ -1,12 +1,11 @@
 -- Classes of tokens, and a token of each.
-use Rattle.std.specs.Prelude.{ℕ, List, [], ◌∷◌, codes}
+use Rattle.std.specs.Prelude.{List, [], ◌∷◌, ◌++◌, map, codes}
 use Rattle.dk_base.specs.declared.span.Span.{Span}
 use Rattle.dk_lexer.specs.declared.token.Symbol.TheVariants as sign
 use Rattle.dk_lexer.specs.declared.token.Token.{Token}
 use Rattle.dk_lexer.specs.declared.token.TokenKind.{TokenKind}
 use Rattle.dk_lexer.specs.declared.token.TokenKind.TheVariants as kind
-use Rattle.source_words.specs.declared.word.Keyword.{Keyword}
-use Rattle.source_words.specs.declared.word.Keyword.TheVariants.{Size, Input, Let, Inline, Im, End, Output, As, Select, Min, Max, Abs, Sat, X, Y, Edge, Clamp}
+use Rattle.source_words.specs.Words.{spelling_of, keywords}
 use Rattle.dk_parser.specs.declared.terminal.Terminal.{Terminal}
 use Rattle.dk_parser.specs.declared.terminal.Terminal.TheVariants as terminal
 use Rattle.expected_tokens.specs.declared.class.TokenClass.{TokenClass}
@@ -20,25 +19,6 @@ class_of terminal.Name = class.Name
 class_of (terminal.Number v) = class.Number
 class_of (terminal.Symbol s) = class.Symbol s
 class_of terminal.EndOfText = class.EndOfText
-
-abbrev pub spelling_of : Keyword → List ℕ
-spelling_of Size = codes "size"
-spelling_of Input = codes "input"
-spelling_of Let = codes "let"
-spelling_of Inline = codes "inline"
-spelling_of Im = codes "im"
-spelling_of End = codes "end"
-spelling_of Output = codes "output"
-spelling_of As = codes "as"
-spelling_of Select = codes "select"
-spelling_of Min = codes "min"
-spelling_of Max = codes "max"
-spelling_of Abs = codes "abs"
-spelling_of Sat = codes "sat"
-spelling_of X = codes "x"
-spelling_of Y = codes "y"
-spelling_of Edge = codes "edge"
-spelling_of Clamp = codes "clamp"
 
 -- the keyword itself, the type `u8`, the name `a`, the number 1, the symbol itself, the end
 abbrev pub sample_kind : TokenClass → TokenKind
@@ -65,12 +45,14 @@ abbrev pub behind : TokenClass → List Token
 behind class.EndOfText = []
 behind _ = record { span = behind_span; kind = kind.End } ∷ []
 
--- all classes: keywords, a type, a name, a number, symbols, the end of the text
-abbrev pub classes : List TokenClass
-classes =
-    class.Keyword Size ∷ class.Keyword Input ∷ class.Keyword Let ∷ class.Keyword Inline ∷ class.Keyword Im ∷ class.Keyword End ∷ class.Keyword Output
-    ∷ class.Keyword As ∷ class.Keyword Select ∷ class.Keyword Min ∷ class.Keyword Max ∷ class.Keyword Abs ∷ class.Keyword Sat ∷ class.Keyword X
-    ∷ class.Keyword Y ∷ class.Keyword Edge ∷ class.Keyword Clamp ∷ class.Type ∷ class.Name ∷ class.Number ∷ class.Symbol sign.Open
+-- the classes that are no keywords: a type, a name, a number, symbols, the end of the text
+abbrev pub others : List TokenClass
+others =
+    class.Type ∷ class.Name ∷ class.Number ∷ class.Symbol sign.Open
     ∷ class.Symbol sign.Close ∷ class.Symbol sign.Comma ∷ class.Symbol sign.Colon ∷ class.Symbol sign.Equal ∷ class.Symbol sign.Plus ∷ class.Symbol sign.Minus ∷ class.Symbol sign.Star
     ∷ class.Symbol sign.Slash ∷ class.Symbol sign.ShiftLeft ∷ class.Symbol sign.ShiftRight ∷ class.Symbol sign.Less ∷ class.Symbol sign.LessEqual ∷ class.Symbol sign.Greater ∷ class.Symbol sign.GreaterEqual
     ∷ class.Symbol sign.EqualEqual ∷ class.Symbol sign.NotEqual ∷ class.Symbol sign.Ampersand ∷ class.Symbol sign.Caret ∷ class.Symbol sign.Bar ∷ class.Symbol sign.Bang ∷ class.EndOfText ∷ []
+
+-- all classes: keywords, and then the others
+abbrev pub classes : List TokenClass
+classes = map class.Keyword keywords ++ others

@@ -1,18 +1,19 @@
 // Classes of tokens, and a token of each.
 
-ghost use Rattle.std.specs.Prelude.{◌≡◌, IfOk};
+ghost use Rattle.std.specs.Prelude.{◌≡◌, ◌++◌, map, IfOk, OnOk};
 ghost use Rattle.std.specs.List.{Contains};
 ghost use Rattle.expected_tokens.specs.declared.class.TokenClass.{TokenClass};
 ghost use Rattle.dk_parser.specs.Terminals.{terminal_of};
-ghost use Rattle.expected_tokens.specs.Classes.{class_of, spelling_of, sample_kind, classes};
+ghost use Rattle.expected_tokens.specs.Classes.{class_of, sample_kind, classes};
 
 use dk_base::{OutOfMemory, Text};
 use dk_lexer::{Symbol, TokenKind};
-use source_words::Keyword;
+use dk_parser::Terminal;
+use source_words::{KEYWORDS, Keyword};
 use std::alloc::Global;
 
 /// What the grammar sees of a token, up to the value of a number, the spelling of a name and which type a type word names.
-#[derive(Clone, Copy)]
+#[derive(Clone, Copy, PartialEq, Eq)]
 pub enum TokenClass {
     Keyword(Keyword),
     Type,
@@ -22,25 +23,8 @@ pub enum TokenClass {
     EndOfText,
 }
 
-// All classes: keywords, a type, a name, a number, symbols, the end of the text.
-pub(crate) const CLASSES: [TokenClass; 42] = [
-    TokenClass::Keyword(Keyword::Size),
-    TokenClass::Keyword(Keyword::Input),
-    TokenClass::Keyword(Keyword::Let),
-    TokenClass::Keyword(Keyword::Inline),
-    TokenClass::Keyword(Keyword::Im),
-    TokenClass::Keyword(Keyword::End),
-    TokenClass::Keyword(Keyword::Output),
-    TokenClass::Keyword(Keyword::As),
-    TokenClass::Keyword(Keyword::Select),
-    TokenClass::Keyword(Keyword::Min),
-    TokenClass::Keyword(Keyword::Max),
-    TokenClass::Keyword(Keyword::Abs),
-    TokenClass::Keyword(Keyword::Sat),
-    TokenClass::Keyword(Keyword::X),
-    TokenClass::Keyword(Keyword::Y),
-    TokenClass::Keyword(Keyword::Edge),
-    TokenClass::Keyword(Keyword::Clamp),
+// The classes that are no keywords: a type, a name, a number, symbols, the end of the text.
+const OTHERS: [TokenClass; 25] = [
     TokenClass::Type,
     TokenClass::Name,
     TokenClass::Number,
@@ -68,27 +52,47 @@ pub(crate) const CLASSES: [TokenClass; 42] = [
     TokenClass::EndOfText,
 ];
 
-fn spelling(keyword: Keyword) -> &'static [u8]
-    ensures { result.now ≡ spelling_of keyword }
+// Adds the classes of keywords.
+fn push_keywords(to: &mut Vec<TokenClass>, keywords: &[Keyword]) -> Result<(), OutOfMemory>
+    ensures { OnOk result (to.new.items ≡ to.old.items ++ map TokenClass.Keyword keywords.now) }
 {
-    match keyword {
-        Keyword::Size => b"size",
-        Keyword::Input => b"input",
-        Keyword::Let => b"let",
-        Keyword::Inline => b"inline",
-        Keyword::Im => b"im",
-        Keyword::End => b"end",
-        Keyword::Output => b"output",
-        Keyword::As => b"as",
-        Keyword::Select => b"select",
-        Keyword::Min => b"min",
-        Keyword::Max => b"max",
-        Keyword::Abs => b"abs",
-        Keyword::Sat => b"sat",
-        Keyword::X => b"x",
-        Keyword::Y => b"y",
-        Keyword::Edge => b"edge",
-        Keyword::Clamp => b"clamp",
+    for keyword in keywords {
+        to.push(TokenClass::Keyword(*keyword))?;
+    }
+    Ok(())
+}
+
+// Adds these classes.
+fn push_classes(to: &mut Vec<TokenClass>, classes: &[TokenClass]) -> Result<(), OutOfMemory>
+    ensures { OnOk result (to.new.items ≡ to.old.items ++ classes.now) }
+{
+    to.extend_from_slice(classes)?;
+    Ok(())
+}
+
+// All classes: keywords, and then the others.
+pub(crate) fn all_classes(alloc: Global) -> Result<Vec<TokenClass>, OutOfMemory>
+    ensures { IfOk result (λ all. all.items ≡ classes) }
+{
+    let mut all = Vec::new(alloc);
+    push_keywords(&mut all, &KEYWORDS)?;
+    push_classes(&mut all, &OTHERS)?;
+    Ok(all)
+}
+
+impl TokenClass {
+    /// The class of what the grammar sees of a token.
+    pub fn of(terminal: Terminal) -> TokenClass
+        ensures { result ≡ class_of terminal }
+    {
+        match terminal {
+            Terminal::Keyword(keyword) => TokenClass::Keyword(keyword),
+            Terminal::TypeWord(_) => TokenClass::Type,
+            Terminal::Name => TokenClass::Name,
+            Terminal::Number(_) => TokenClass::Number,
+            Terminal::Symbol(symbol) => TokenClass::Symbol(symbol),
+            Terminal::EndOfText => TokenClass::EndOfText,
+        }
     }
 }
 
@@ -105,7 +109,7 @@ pub(crate) fn sample(alloc: Global, class: TokenClass) -> Result<TokenKind, OutO
     ensures { IfOk result (λ kind. kind ≡ sample_kind class) }
 {
     let kind = match class {
-        TokenClass::Keyword(keyword) => word(alloc, spelling(keyword))?,
+        TokenClass::Keyword(keyword) => word(alloc, keyword.spelling().as_bytes())?,
         TokenClass::Type => word(alloc, b"u8")?,
         TokenClass::Name => word(alloc, b"a")?,
         TokenClass::Number => TokenKind::Number(1),

@@ -7,7 +7,7 @@ ghost use Rattle.expected_tokens.specs.declared.class.TokenClass.{TokenClass};
 ghost use Rattle.expected_tokens.specs.Classes.{behind, classes};
 ghost use Rattle.expected_tokens.specs.Expected.{AreOfAText, CanFollow, AreThose, Grows, tried, GoesOn, StopsBefore};
 
-use crate::class::{CLASSES, TokenClass, sample};
+use crate::class::{TokenClass, all_classes, sample};
 use crate::copied::copied;
 use dk_base::{OutOfMemory, Span};
 use dk_lexer::{Token, TokenKind};
@@ -122,6 +122,7 @@ pub fn expected_tokens(alloc: Global, before: &[Token]) -> Result<Vec<TokenClass
     ensures exact { IfOk result (λ found. (c : TokenClass) → Contains found.items c ↔ CanFollow before.now c) }
 {
     let mut tokens = copied(alloc, before)?;
-    let found = those_of(alloc, &mut tokens, &CLASSES)?;
+    let classes = all_classes(alloc)?;
+    let found = those_of(alloc, &mut tokens, &classes)?;
     Ok(found)
 }

@@ -4,8 +4,8 @@ use crate::lexical::{push_lexical, push_lexical_help};
 use crate::limits::{push_limit, push_limit_help};
 use crate::type_help::push_type_help;
 use crate::types::{Typed, push_typed};
-use dk_base::{OutOfMemory, Span};
-use source_fault::SourceFault;
+use dk_base::OutOfMemory;
+use source_fault::{SourceFault, Subject};
 use source_places::PlainText;
 use std::alloc::Global;
 use syntax_messages::{Source, push_excerpt, push_syntax};
@@ -19,16 +19,6 @@ fn push_typed_detail(to: &mut PlainText, alloc: Global, of: &Typed<'_>) -> Resul
     Ok(())
 }
 
-// The span of a fault that is over a limit.
-fn limit_span(fault: SourceFault) -> Option<Span> {
-    match fault {
-        SourceFault::Nest { span } => Some(span),
-        SourceFault::Depth { span } => Some(span),
-        SourceFault::InlineDepth { span } => Some(span),
-        _ => None,
-    }
-}
-
 // On a program over a limit.
 fn push_limit_detail(
     to: &mut PlainText,
@@ -37,7 +27,7 @@ fn push_limit_detail(
     fault: SourceFault,
 ) -> Result<(), OutOfMemory> {
     push_limit(to, fault)?;
-    if let Some(span) = limit_span(fault) {
+    if let Subject::Bytes(span) = fault.subject() {
         push_excerpt(to, alloc, source, span)?;
     }
     push_limit_help(to, fault)?;
@@ -67,7 +57,14 @@ pub(crate) fn detail(
             };
             push_typed_detail(&mut to, alloc, &of)?;
         }
-        _ => push_limit_detail(&mut to, alloc, source, fault)?,
+        SourceFault::TooLong
+        | SourceFault::Nest { span: _ }
+        | SourceFault::Depth { span: _ }
+        | SourceFault::InlineDepth { span: _ }
+        | SourceFault::Nodes { count: _ }
+        | SourceFault::Reads { count: _ }
+        | SourceFault::Bits { least: _ }
+        | SourceFault::Latency { clocks: _ } => push_limit_detail(&mut to, alloc, source, fault)?,
     }
     Ok(to)
 }

@@ -89,7 +89,7 @@ pub(crate) fn push_limit(to: &mut PlainText, fault: SourceFault) -> Result<(), O
             " clocks",
             MAX_LATENCY,
         )?,
-        _ => {}
+        SourceFault::Lex(_) | SourceFault::Syntax { span: _ } | SourceFault::Types(_) => {}
     }
     Ok(())
 }
@@ -113,7 +113,7 @@ fn limit_help(fault: SourceFault) -> &'static str {
         SourceFault::Latency { clocks: _ } => {
             "read fewer rows ahead (`y+k`), or use a smaller width"
         }
-        _ => "",
+        SourceFault::Lex(_) | SourceFault::Syntax { span: _ } | SourceFault::Types(_) => "",
     }
 }
 

@@ -4,87 +4,28 @@ ghost use Rattle.std.specs.Prelude.{◌≡◌, ◌∷◌, ◌++◌, ◌<◌, ◌
 ghost use Rattle.dk_lexer.specs.Faithful.{IsEnded};
 ghost use Rattle.source_fault.specs.declared.fault.SourceFault.{SourceFault as AnyFault};
 ghost use Rattle.source_places.specs.Places.{line_of, column_of};
-ghost use Rattle.fault_messages.specs.Explanations.{lexer_word as word_of_lexer, types_word as word_of_types, kind_word as word_of_kind, start_of, head as head_of, IsDetail, IsMessage, AreMessages, IsExplanation};
+ghost use Rattle.fault_messages.specs.Explanations.{start_of, head as head_of, IsDetail, IsMessage, AreMessages, IsExplanation};
 
 use crate::MAX_MESSAGES;
 use crate::details::detail;
 use dk_base::OutOfMemory;
-use dk_lexer::{LexError, LexKind, Token, lex};
+use dk_lexer::{LexError, Token, lex};
 use dk_parser::{ParseError, parse};
-use dk_types::{TypeFault, TypeFaultKind};
+use dk_types::TypeFault;
 use itoa::Buffer;
-use source_fault::SourceFault;
+use source_fault::{SourceFault, Subject};
 use source_places::{Place, place_of, shown_name};
 use std::alloc::{AllocError, Global};
 use syntax_messages::Source;
 use type_faults::{FoundFault, FoundTypes, type_faults};
 
-fn lexer_word(kind: LexKind) -> &'static str
-    ensures { result.now ≡ word_of_lexer kind }
-{
-    match kind {
-        LexKind::BadByte => "BadByte",
-        LexKind::NumberTooGreat => "NumberTooGreat",
-        LexKind::NameTooLong => "NameTooLong",
-    }
-}
-
-fn types_word(kind: TypeFaultKind) -> &'static str
-    ensures { result.now ≡ word_of_types kind }
-{
-    match kind {
-        TypeFaultKind::SizeRange => "SizeRange",
-        TypeFaultKind::InputType => "InputType",
-        TypeFaultKind::TooManyInputs => "TooManyInputs",
-        TypeFaultKind::TooManyOutputs => "TooManyOutputs",
-        TypeFaultKind::TooManyImages => "TooManyImages",
-        TypeFaultKind::DuplicateName => "DuplicateName",
-        TypeFaultKind::UnknownImage => "UnknownImage",
-        TypeFaultKind::OffsetRange => "OffsetRange",
-        TypeFaultKind::WidthTooGreat => "WidthTooGreat",
-        TypeFaultKind::NotOneBit => "NotOneBit",
-        TypeFaultKind::SignedBits => "SignedBits",
-        TypeFaultKind::ZeroDivisor => "ZeroDivisor",
-        TypeFaultKind::ShiftRange => "ShiftRange",
-        TypeFaultKind::NotConvertible => "NotConvertible",
-        TypeFaultKind::OutputType => "OutputType",
-    }
-}
-
-fn kind_word(fault: SourceFault) -> &'static str
-    ensures { result.now ≡ word_of_kind fault }
-{
-    match fault {
-        SourceFault::TooLong => "TooLong",
-        SourceFault::Lex(fault) => lexer_word(fault.kind),
-        SourceFault::Nest { span: _ } => "Nest",
-        SourceFault::Syntax { span: _ } => "Syntax",
-        SourceFault::Depth { span: _ } => "Depth",
-        SourceFault::Types(fault) => types_word(fault.kind),
-        SourceFault::Nodes { count: _ } => "Nodes",
-        SourceFault::InlineDepth { span: _ } => "InlineDepth",
-        SourceFault::Reads { count: _ } => "Reads",
-        SourceFault::Bits { least: _ } => "Bits",
-        SourceFault::Latency { clocks: _ } => "Latency",
-    }
-}
-
 // The first byte of a fault's span, or of the text.
 fn start(fault: SourceFault) -> usize
     ensures { result ≡ start_of fault }
 {
-    match fault {
-        SourceFault::Lex(fault) => fault.span.start,
-        SourceFault::Types(fault) => fault.span.start,
-        SourceFault::Nest { span } => span.start,
-        SourceFault::Syntax { span } => span.start,
-        SourceFault::Depth { span } => span.start,
-        SourceFault::InlineDepth { span } => span.start,
-        SourceFault::TooLong => 0,
-        SourceFault::Nodes { count: _ } => 0,
-        SourceFault::Reads { count: _ } => 0,
-        SourceFault::Bits { least: _ } => 0,
-        SourceFault::Latency { clocks: _ } => 0,
+    match fault.subject() {
+        Subject::Bytes(span) => span.start,
+        Subject::Number(_) => 0,
     }
 }
 
@@ -132,7 +73,7 @@ fn message(
     ensures { IfOk result (λ v. IsMessage name.now source.now.text.now fault v.items) }
 {
     let at = place_of(source.text, start(fault));
-    let mut bytes = head(alloc, name, at, kind_word(fault))?;
+    let mut bytes = head(alloc, name, at, fault.word())?;
     let detail = ended_detail(alloc, source, fault, types)?;
     bytes.extend_from_slice(&detail)?;
     Ok(bytes)
@@ -241,17 +182,13 @@ fn messages_by_tokens(
     requires { IsEnded source.now.tokens.now }
     ensures { IfOk result (λ v. IsExplanation name.now source.now.text.now fault v.items) }
 {
-    match fault {
-        SourceFault::Types(first) => {
-            let found = type_faults_of(alloc, source.tokens, first)?;
-            let bytes = messages(alloc, name, source, first, &found)?;
-            Ok(bytes)
-        }
-        _ => {
-            let bytes = lone_message(alloc, name, source, fault)?;
-            Ok(bytes)
-        }
+    if let SourceFault::Types(first) = fault {
+        let found = type_faults_of(alloc, source.tokens, first)?;
+        let bytes = messages(alloc, name, source, first, &found)?;
+        return Ok(bytes);
     }
+    let bytes = lone_message(alloc, name, source, fault)?;
+    Ok(bytes)
 }
 
 // The message of the fault of a text without tokens.

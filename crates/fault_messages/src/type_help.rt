@@ -117,7 +117,11 @@ fn type_help(of: &Typed<'_>) -> &'static str {
         TypeFaultKind::WidthTooGreat => "convert the operands by `as` or `sat` to fewer bits first",
         TypeFaultKind::NotOneBit if of.is_negated() => "write `p == 0`, or `!(p > 9)`",
         TypeFaultKind::NotOneBit => "write a comparison, as `p > 0`",
-        _ => "",
+        TypeFaultKind::SizeRange | TypeFaultKind::TooManyInputs => "",
+        TypeFaultKind::TooManyOutputs | TypeFaultKind::DuplicateName => "",
+        TypeFaultKind::UnknownImage | TypeFaultKind::SignedBits => "",
+        TypeFaultKind::ZeroDivisor | TypeFaultKind::ShiftRange => "",
+        TypeFaultKind::NotConvertible | TypeFaultKind::OutputType => "",
     }
 }
 
@@ -133,7 +137,11 @@ pub(crate) fn push_type_help(to: &mut PlainText, of: &Typed<'_>) -> Result<(), O
         TypeFaultKind::NotConvertible => push_body_help(to, of)?,
         TypeFaultKind::SignedBits => push_signed_help(to, of)?,
         TypeFaultKind::OutputType => push_conversions(to, "convert its body: ", Ty::Unsigned(8))?,
-        _ => {}
+        TypeFaultKind::SizeRange | TypeFaultKind::InputType => {}
+        TypeFaultKind::TooManyInputs | TypeFaultKind::TooManyOutputs => {}
+        TypeFaultKind::TooManyImages | TypeFaultKind::OffsetRange => {}
+        TypeFaultKind::WidthTooGreat | TypeFaultKind::NotOneBit => {}
+        TypeFaultKind::ZeroDivisor | TypeFaultKind::ShiftRange => {}
     }
     Ok(())
 }

@@ -1,7 +1,9 @@
 // Where the definitions of a source are among its tokens.
 
-use crate::tokens::{is_symbol_at, next_symbol, next_word};
+use crate::tokens::next;
 use dk_lexer::{Symbol, Token};
+use dk_parser::{Terminal, terminal_at};
+use source_words::Keyword;
 
 // The number of the tokens `= im ( x , y )`.
 const OPENING_TOKENS: usize = 7;
@@ -16,13 +18,13 @@ pub(crate) struct Place {
 
 // The next definition, from a place on.
 pub(crate) fn next_definition(tokens: &[Token], from: usize) -> Place {
-    let name = next_word(tokens, from, b"let").saturating_add(1);
-    let equal = next_symbol(tokens, name, Symbol::Equal);
+    let name = next(tokens, from, Terminal::Keyword(Keyword::Let)).saturating_add(1);
+    let equal = next(tokens, name, Terminal::Symbol(Symbol::Equal));
     let start = equal.saturating_add(OPENING_TOKENS);
     Place {
         name,
         start,
-        end: next_word(tokens, start, b"end"),
+        end: next(tokens, start, Terminal::Keyword(Keyword::End)),
     }
 }
 
@@ -30,10 +32,11 @@ pub(crate) fn next_definition(tokens: &[Token], from: usize) -> Place {
 fn closing_bracket(tokens: &[Token], opening: usize) -> usize {
     let mut depth: usize = 0;
     for place in opening..tokens.len() {
-        if is_symbol_at(tokens, place, Symbol::Open) {
+        let terminal = terminal_at(tokens, place);
+        if terminal == Terminal::Symbol(Symbol::Open) {
             depth = depth.saturating_add(1);
         }
-        if is_symbol_at(tokens, place, Symbol::Close) {
+        if terminal == Terminal::Symbol(Symbol::Close) {
             if depth <= 1 {
                 return place;
             }
@@ -45,12 +48,13 @@ fn closing_bracket(tokens: &[Token], opening: usize) -> usize {
 
 // Whether the body is one pair of brackets, with one token before it or none: an operand of any operator.
 pub(crate) fn is_enclosed(tokens: &[Token], at: Place) -> bool {
-    let opening = if is_symbol_at(tokens, at.start, Symbol::Open) {
+    let opens = Terminal::Symbol(Symbol::Open);
+    let opening = if terminal_at(tokens, at.start) == opens {
         at.start
     } else {
         at.start.saturating_add(1)
     };
-    if !is_symbol_at(tokens, opening, Symbol::Open) {
+    if terminal_at(tokens, opening) != opens {
         return false;
     }
     closing_bracket(tokens, opening).saturating_add(1) == at.end

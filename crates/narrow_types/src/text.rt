@@ -2,10 +2,11 @@
 
 use crate::changes::{Cast, Change, changes_of};
 use crate::places::{Place, is_enclosed, next_definition};
-use crate::tokens::{is_symbol_at, start_of, stop_of};
+use crate::tokens::{start_of, stop_of};
 use crate::words::push_type;
 use dk_base::{OutOfMemory, Ty, is_white, is_word_byte};
 use dk_lexer::{LexError, Symbol, Token, lex};
+use dk_parser::{Terminal, terminal_at};
 use dk_types::TypedProgram;
 use std::alloc::{AllocError, Global};
 
@@ -89,7 +90,7 @@ fn push_undeclared(
     at: Place,
 ) -> Result<usize, OutOfMemory> {
     let colon = at.name.saturating_add(1);
-    if !is_symbol_at(on.tokens, colon, Symbol::Colon) {
+    if terminal_at(on.tokens, colon) != Terminal::Symbol(Symbol::Colon) {
         return Ok(from);
     }
     let after = push_without(to, on, from, colon)?;

@@ -1,6 +1,9 @@
 // Why a text is refused.
 
-use dk_base::Span;
+ghost use Rattle.std.specs.Prelude.{◌≡◌, ◌≤◌, length};
+ghost use Rattle.source_fault.specs.Faults.{word_of, subject_of};
+
+use dk_base::{MAX_SOURCE_BYTES, Span};
 use dk_lexer::LexFault;
 use dk_types::TypeFault;
 
@@ -40,4 +43,54 @@ pub enum SourceFault {
     /// The greatest latency of an output in clocks at the requested age, if it is above 67,108,864.
     #[error("Latency {clocks}")]
     Latency { clocks: u64 },
+}
+
+/// What a fault is about.
+#[derive(Clone, Copy)]
+pub enum Subject {
+    /// The bytes of the text that are at fault.
+    Bytes(Span),
+    /// A number of the whole program, which is over a limit. Of a text that is too long it is the limit.
+    Number(u64),
+}
+
+impl SourceFault {
+    /// Its word, in its line and in messages.
+    pub fn word(self) -> &'static str
+        ensures is { result.now ≡ word_of self }
+        ensures short { length result.now ≤ 20 }
+    {
+        match self {
+            SourceFault::TooLong => "TooLong",
+            SourceFault::Lex(fault) => fault.kind.word(),
+            SourceFault::Nest { span: _ } => "Nest",
+            SourceFault::Syntax { span: _ } => "Syntax",
+            SourceFault::Depth { span: _ } => "Depth",
+            SourceFault::Types(fault) => fault.kind.word(),
+            SourceFault::Nodes { count: _ } => "Nodes",
+            SourceFault::InlineDepth { span: _ } => "InlineDepth",
+            SourceFault::Reads { count: _ } => "Reads",
+            SourceFault::Bits { least: _ } => "Bits",
+            SourceFault::Latency { clocks: _ } => "Latency",
+        }
+    }
+
+    /// What it is about.
+    pub fn subject(self) -> Subject
+        ensures { result ≡ subject_of self }
+    {
+        match self {
+            SourceFault::TooLong => Subject::Number(MAX_SOURCE_BYTES as u64),
+            SourceFault::Lex(fault) => Subject::Bytes(fault.span),
+            SourceFault::Nest { span } => Subject::Bytes(span),
+            SourceFault::Syntax { span } => Subject::Bytes(span),
+            SourceFault::Depth { span } => Subject::Bytes(span),
+            SourceFault::Types(fault) => Subject::Bytes(fault.span),
+            SourceFault::Nodes { count } => Subject::Number(count),
+            SourceFault::InlineDepth { span } => Subject::Bytes(span),
+            SourceFault::Reads { count } => Subject::Number(u64::from(count)),
+            SourceFault::Bits { least } => Subject::Number(least),
+            SourceFault::Latency { clocks } => Subject::Number(clocks),
+        }
+    }
 }

@@ -4,5 +4,5 @@
 mod fault;
 mod widen;
 
-pub use fault::SourceFault;
+pub use fault::{SourceFault, Subject};
 pub use widen::WidenFault;

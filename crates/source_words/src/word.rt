@@ -1,10 +1,10 @@
 // The words of the source language.
 
 ghost use Rattle.std.specs.Prelude.{◌≡◌, Some};
-ghost use Rattle.std.specs.List.{find};
+ghost use Rattle.std.specs.List.{find, Contains};
 ghost use Rattle.std.specs.Str.{bytes_eq};
 ghost use Rattle.source_words.specs.declared.word.Keyword.{Keyword};
-ghost use Rattle.source_words.specs.Words.{is_word as word, spelling_of, is_function as names_function, keyword_of, width_of, type_of_word, is_name as name};
+ghost use Rattle.source_words.specs.Words.{is_word as word, spelling_of, is_function as names_function, keywords, keyword_of, width_of, type_of_word, is_name as name};
 
 use dk_base::{MAX_NAME_BYTES, MAX_WIDTH, Ty, is_letter, word_length};
 
@@ -120,9 +120,10 @@ pub fn find_keyword(bytes: &[u8]) -> Option<Keyword>
     among(&KEYWORDS, bytes)
 }
 
-/// Each reserved word is read as itself, so the list has each.
+/// Each reserved word is read as itself, and the list has each.
 pub fn spellings_law()
-    ensures { (k : Keyword) → keyword_of (spelling_of k) ≡ Some k }
+    ensures read { (k : Keyword) → keyword_of (spelling_of k) ≡ Some k }
+    ensures listed { (k : Keyword) → Contains keywords k }
 {}
 
 // 1 to 64 in decimal, without a leading zero.

@@ -1,8 +1,8 @@
 // The tokens around a faulty one.
 
-use crate::classes::{class_of, is_same};
 use dk_base::Span;
 use dk_lexer::{Symbol, Token, TokenKind};
+use dk_parser::terminal_at;
 use expected_tokens::TokenClass;
 use source_words::Keyword;
 
@@ -25,10 +25,7 @@ pub fn token_at(tokens: &[Token], span: Span) -> usize {
 
 /// The class of the token at a place. The end of the text if there is none.
 pub(crate) fn class_at(tokens: &[Token], place: usize) -> TokenClass {
-    match tokens.get(place) {
-        Some(token) => class_of(token),
-        None => TokenClass::EndOfText,
-    }
+    TokenClass::of(terminal_at(tokens, place))
 }
 
 /// The class of the token before a place, the first, second or later one. The end of the text if there is none.
@@ -74,7 +71,7 @@ pub(crate) fn is_text(bytes: &[u8], text: &[u8]) -> bool {
 pub fn is_word(token: &Token, word: &[u8]) -> bool {
     match &token.kind {
         TokenKind::Word(text) => text.as_bytes() == word,
-        _ => false,
+        TokenKind::Number(_) | TokenKind::Symbol(_) | TokenKind::End => false,
     }
 }
 
@@ -114,7 +111,7 @@ impl<'a> Around<'a> {
     /// Whether a token of the class could stand there.
     pub(crate) fn expects(&self, class: TokenClass) -> bool {
         for other in self.expected {
-            if is_same(*other, class) {
+            if *other == class {
                 return true;
             }
         }

@@ -1,6 +1,6 @@
 // What could stand at a place, in words.
 
-use crate::classes::{begins_operand, is_operator, is_same, keyword_text, symbol_text};
+use crate::classes::{begins_operand, is_operator, symbol_text};
 use dk_base::OutOfMemory;
 use dk_lexer::Symbol;
 use expected_tokens::TokenClass;
@@ -27,7 +27,7 @@ enum Item {
 
 fn contains(classes: &[TokenClass], class: TokenClass) -> bool {
     for other in classes {
-        if is_same(*other, class) {
+        if *other == class {
             return true;
         }
     }
@@ -47,7 +47,7 @@ fn has_operator(classes: &[TokenClass]) -> bool {
 // Whether the class is named by itself, in its place. `edge` comes after what may stand there whatever is before it.
 fn is_named(classes: &[TokenClass], class: TokenClass) -> bool {
     !(has_operand(classes) && begins_operand(class))
-        && !(has_operator(classes) && (is_operator(class) || is_same(class, EDGE)))
+        && !(has_operator(classes) && (is_operator(class) || class == EDGE))
 }
 
 // The word of an expression.
@@ -96,7 +96,7 @@ fn push_class(to: &mut PlainText, class: TokenClass) -> Result<(), OutOfMemory> 
         TokenClass::EndOfText => to.push("the end of the text")?,
         TokenClass::Keyword(keyword) => {
             to.push("`")?;
-            to.push(keyword_text(keyword))?;
+            to.push(keyword.spelling())?;
             to.push("`")?;
         }
         TokenClass::Symbol(symbol) => {

@@ -25,18 +25,31 @@ fn spelling_help(mistake: Mistake) -> &'static str {
     }
 }
 
-fn operands_help(function: Keyword, many: bool) -> &'static str {
-    match (function, many) {
-        (Keyword::Min, true) => "`min` has two operands: write `min(min(p, q), r)` for three",
-        (Keyword::Max, true) => "`max` has two operands: write `max(max(p, q), r)` for three",
-        (Keyword::Min, false) => "`min` has two operands: `min(p, q)`",
-        (Keyword::Max, false) => "`max` has two operands: `max(p, q)`",
-        (Keyword::Abs, _) => "`abs` has one operand: `abs(p)`",
-        (Keyword::Sat, _) => "`sat` has one operand and a type: `sat(p, u8)`",
-        (Keyword::Select, _) => {
+// What helps where an operator has too many operands.
+fn too_many_help(function: Keyword) -> &'static str {
+    match function {
+        Keyword::Min => "`min` has two operands: write `min(min(p, q), r)` for three",
+        Keyword::Max => "`max` has two operands: write `max(max(p, q), r)` for three",
+        Keyword::Abs | Keyword::Sat | Keyword::Select => too_few_help(function),
+        Keyword::Size | Keyword::Input | Keyword::Let | Keyword::Inline | Keyword::Im => "",
+        Keyword::End | Keyword::Output | Keyword::As | Keyword::X | Keyword::Y => "",
+        Keyword::Edge | Keyword::Clamp => "",
+    }
+}
+
+// What helps where an operator has too few operands.
+fn too_few_help(function: Keyword) -> &'static str {
+    match function {
+        Keyword::Min => "`min` has two operands: `min(p, q)`",
+        Keyword::Max => "`max` has two operands: `max(p, q)`",
+        Keyword::Abs => "`abs` has one operand: `abs(p)`",
+        Keyword::Sat => "`sat` has one operand and a type: `sat(p, u8)`",
+        Keyword::Select => {
             "`select` has three operands: `select(c, p, q)` is p where c is 1, and q elsewhere"
         }
-        _ => "",
+        Keyword::Size | Keyword::Input | Keyword::Let | Keyword::Inline | Keyword::Im => "",
+        Keyword::End | Keyword::Output | Keyword::As | Keyword::X | Keyword::Y => "",
+        Keyword::Edge | Keyword::Clamp => "",
     }
 }
 
@@ -67,8 +80,8 @@ fn expression_help(mistake: Mistake) -> &'static str {
             "a name here is an image, which is read at a point: `a(x,y)`; constants have no names",
         Mistake::Unclosed => "",
         Mistake::Unopened => "no bracket is open here",
-        Mistake::TooManyOperands(function) => operands_help(function, true),
-        Mistake::TooFewOperands(function) => operands_help(function, false),
+        Mistake::TooManyOperands(function) => too_many_help(function),
+        Mistake::TooFewOperands(function) => too_few_help(function),
         _ => "",
     }
 }

@@ -4,7 +4,6 @@ ghost use Rattle.std.specs.Prelude.{IsTrue};
 ghost use Rattle.expected_tokens.specs.Expected.{IsOfAText, AreOfAText};
 
 use crate::around::{Around, Source, bytes_at, class_at, open_bracket_at, token_at};
-use crate::classes::{is_same, keyword_text};
 use crate::expected::push_expected;
 use crate::helps::{help, push_radix, push_type_guess};
 use crate::mistake::Mistake;
@@ -122,7 +121,7 @@ fn push_comment(to: &mut PlainText, a: &Around<'_>) -> Result<(), OutOfMemory> {
 // The place of the last definition that begins before a token.
 fn definition_before(tokens: &[Token], place: usize) -> usize {
     for at in (0..place.min(tokens.len())).rev() {
-        if is_same(class_at(tokens, at), TokenClass::Keyword(Keyword::Let)) {
+        if class_at(tokens, at) == TokenClass::Keyword(Keyword::Let) {
             return at;
         }
     }
@@ -166,7 +165,7 @@ fn push_lower_case(to: &mut PlainText, word: &str) -> Result<(), OutOfMemory> {
 // Adds the help on a mistake.
 fn push_mistake(to: &mut PlainText, a: &Around<'_>, mistake: Mistake) -> Result<(), OutOfMemory> {
     match mistake {
-        Mistake::UpperCase(keyword) => push_lower_case(to, keyword_text(keyword))?,
+        Mistake::UpperCase(keyword) => push_lower_case(to, keyword.spelling())?,
         Mistake::Radix => {
             push_help(to, help(mistake))?;
             push_radix(to, a.bytes())?;
