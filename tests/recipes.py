@@ -29,8 +29,8 @@ NEAR = [10, 5, 255, 0, 10, 200, 247, 1]
 F = [10, 10, 249, 255, 10, 134, 38, 247]
 ONE_OPERAND = DISTANCES.replace("abs_diff(a(x,y), b(x,y))", "abs_diff(a(x,y))")
 
-# Two kept definitions, and one that is substituted.
-TWO = """size 4 2
+# Three definitions, one of them inline.
+THREE = """size 4 2
 input a : u8
 inline let h = im(x,y) a(x,y) end
 let g = im(x,y) h(x-1,y) end
@@ -120,9 +120,10 @@ def operator(calls):
 
 def command(calls):
     """The new command, with a program, one that is refused, and wrong words."""
-    calls.write("p.dk", TWO)
-    calls.write("broken.dk", TWO.replace("a(x,y)", "b(x,y)"))
-    calls.holds("count: another line", calls.call("count", "p.dk") == "count: definitions 2\n")
+    calls.write("p.dk", THREE)
+    calls.write("broken.dk", THREE.replace("a(x,y)", "b(x,y)"))
+    line = calls.call("count", "p.dk")
+    calls.holds(f"count: another line: {line}", line == "count: definitions 3\n")
     calls.call("count", "broken.dk", status=3)
     calls.call("count", status=2)
     calls.call("count", "p.dk", "p.dk", status=2)
