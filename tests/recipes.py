@@ -3,7 +3,7 @@
 there without proofs (tools/unproved.py), and compares what it writes with values worked out by hand. The operator is tried in each command that reads
 a program.
 
-usage: tests/recipes.py [NAME..]      NAME is operator or command; each takes about four minutes, and needs the kit
+usage: tests/recipes.py [NAME..]      NAME is operator, command, option or fault; each takes about four minutes, and needs the kit
 """
 import os
 import re
@@ -75,7 +75,7 @@ class Calls:
     """Calls of the program that was built, and what was wrong."""
 
     def __init__(self, program, folder):
-        self.program, self.folder, self.wrong = program, folder, 0
+        self.program, self.folder, self.wrong, self.said = program, folder, 0, ""
 
     def write(self, name, content):
         with open(f"{self.folder}/{name}", "wb") as file:
@@ -84,6 +84,7 @@ class Calls:
     def call(self, *words, status=0):
         done = subprocess.run([self.program, *words], cwd=self.folder, capture_output=True, text=True, timeout=120, check=False)
         self.holds(f"{' '.join(words)}: status {done.returncode}, {done.stderr}", done.returncode == status)
+        self.said = done.stderr
         return done.stdout
 
     def holds(self, what, good):
@@ -130,7 +131,38 @@ def command(calls):
     calls.call("explain", "p.dk")
 
 
-RECIPES = {"operator": operator, "command": command}
+def option(calls):
+    """A report that holds with and without the new option, and one that does not."""
+    calls.write("p.dk", THREE)
+    report = calls.call("plan", "p.dk")
+    calls.write("report", report)
+    calls.write("wrong", report.replace("bits ", "bits 1"))
+    calls.holds("check: no line", calls.call("check", "p.dk", "report").startswith("report holds: "))
+    for words in ("--quiet", "p.dk", "report"), ("p.dk", "report", "--quiet"):
+        calls.holds("check --quiet: a line", calls.call("check", *words) == "")
+    calls.call("check", "--quiet", "p.dk", "wrong", status=10)
+    calls.call("check", "--quiet", "--quiet", "p.dk", "report", status=2)
+    calls.call("plan", "--quiet", "p.dk", status=2)
+
+
+# One output of one bit, which the new fault refuses, and its span.
+ONE_BIT = THREE.replace("input a : u8", "input a : u1")
+SPAN = f"{ONE_BIT.rindex('f')}-{ONE_BIT.rindex('f') + 1}"
+
+
+def fault(calls):
+    """Programs with the new fault and without it."""
+    calls.write("p.dk", THREE)
+    calls.write("bit.dk", ONE_BIT)
+    calls.call("compile", "p.dk", "p.v")
+    calls.call("compile", "bit.dk", "bit.v", status=3)
+    calls.holds(f"another line: {calls.said}", calls.said == f"program {SPAN}: OutputBit\n")
+    said = calls.call("explain", "bit.dk", status=3)
+    calls.holds(f"explain: no message: {said}", "bit.dk:6:8: error: OutputBit: an output has at least 2 bits" in said)
+    calls.holds(f"explain: no help: {said}", "= help: write `select(p, 255, 0) as u8`" in said)
+
+
+RECIPES = {"operator": operator, "command": command, "option": option, "fault": fault}
 
 
 def tried(name):

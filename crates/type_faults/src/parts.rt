@@ -171,9 +171,10 @@ fn without_output(
     }
     let mut outputs = std::mem::replace(&mut rest.outputs, Vec::new(alloc));
     let output = outputs.remove(at);
-    let types = match kind {
-        TypeFaultKind::OutputType => type_of_image(alloc, &rest, &output)?,
-        _ => FoundTypes::None,
+    let types = if kind == TypeFaultKind::OutputType {
+        type_of_image(alloc, &rest, &output)?
+    } else {
+        FoundTypes::None
     };
     let mut gone = Vec::new(alloc);
     gone.push(output.text)?;
@@ -224,12 +225,12 @@ fn take_out(program: &mut Program, place: Place) -> FoundTypes {
 
 // Whether there are too many of some items, so that each one after them is a fault too.
 fn is_count(kind: TypeFaultKind) -> bool {
-    match kind {
+    matches!(
+        kind,
         TypeFaultKind::TooManyInputs
-        | TypeFaultKind::TooManyOutputs
-        | TypeFaultKind::TooManyImages => true,
-        _ => false,
-    }
+            | TypeFaultKind::TooManyOutputs
+            | TypeFaultKind::TooManyImages
+    )
 }
 
 // Where a fault is, if the program without it has faults of its own.

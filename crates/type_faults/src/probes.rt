@@ -74,7 +74,12 @@ fn parts_at(body: Expr, fault: TypeFault) -> Option<Parts> {
             Some(Parts::One(operand))
         }
         TypeFaultKind::WidthTooGreat => operands_of(part_at(body, fault.span)?),
-        _ => None,
+        TypeFaultKind::SizeRange | TypeFaultKind::InputType => None,
+        TypeFaultKind::TooManyInputs | TypeFaultKind::TooManyOutputs => None,
+        TypeFaultKind::TooManyImages | TypeFaultKind::DuplicateName => None,
+        TypeFaultKind::UnknownImage | TypeFaultKind::OffsetRange => None,
+        TypeFaultKind::ZeroDivisor | TypeFaultKind::ShiftRange => None,
+        TypeFaultKind::OutputType => None,
     }
 }
 
