@@ -37,9 +37,10 @@ says() {
     grep -qxF -e "$1" stderr || wrong "$2: no line '$1' in: $(cat stderr)"
 }
 
-# leaves_nothing NAME: no process of a part is left, and no file. (Parts that sleep do so for 98765 seconds.)
+# leaves_nothing NAME: no process of a part is left, and no file. (Parts that sleep do so for these seconds, which no other call of this test has.)
+export seconds="98765.$$"
 leaves_nothing() {
-    left=$(grep -lsz '^98765' /proc/[0-9]*/cmdline)
+    left=$(grep -lszx "98765\.$$" /proc/[0-9]*/cmdline)
     [ -z "$left" ] || wrong "$1: a process is left"
     # shellcheck disable=SC2046
     [ -z "$left" ] || kill -s KILL $(printf '%s\n' "$left" | cut -d / -f 3) 2>/dev/null
@@ -61,15 +62,15 @@ part uncounted <<'end'
 echo 'no count'
 end
 part slow <<'end'
-timeout 98765 sleep 98765 &
+timeout "$seconds" sleep "$seconds" &
 echo 'begins'
-sleep 98765
+sleep "$seconds"
 end
 part leaving <<'end'
 mkdir "$TMPDIR/closed"
 : >"$TMPDIR/closed/file"
 chmod 0 "$TMPDIR/closed"
-sleep 98765 &
+sleep "$seconds" &
 end
 for name in first second; do
     printf 'for word in 1 2 3; do echo %s $word; sleep 0.2; done\n' $name | part lines_$name
@@ -172,7 +173,7 @@ ends 2 '' 'no folder for files'
 
 # Without python3 its parts are passed over.
 mkdir tools
-for tool in $(sed -n '/^for tool in/,/; do$/p' "$top/check" | tr -d '\\\\;' | sed 's/^for tool in//; s/ do$//') sh env; do
+for tool in $(sed -n '/^for tool in/,/; do$/p' "$top/check" | tr -d '\\\\;' | sed 's/^for tool in//; s/ do$//') sh; do
     ln -s "$(command -v "$tool")" tools
 done
 checkout python <<end
