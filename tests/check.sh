@@ -58,6 +58,10 @@ part counted <<'end'
 echo 'case 2 is wrong' >&2
 echo '3 passed, 1 failed'
 end
+part wrongly <<'end'
+echo '2 passed, 0 failed'
+exit 3
+end
 part uncounted <<'end'
 echo 'no count'
 end
@@ -101,6 +105,22 @@ end
 run one/check
 ends 0 '1 passed, 0 failed' 'one part'
 [ ! -s stderr ] && [ "$(wc -l <stdout)" = 1 ] || wrong "one part writes more than its count: $(cat stdout stderr)"
+
+# A part that fails after a count without a failure; a table whose last line has no end; and no table, or none of its parts
+checkout count <<end
+counts|sh tests/wrongly|
+end
+printf 'holds|sh tests/good|this is good' >>count/tests/parts.txt
+run count/check
+ends 1 '3 passed, 1 failed' 'a count and a status'
+says 'check: sh tests/wrongly: ended with status 3' 'a count and a status'
+: >count/tests/parts.txt
+run count/check
+ends 1 '0 passed, 0 failed' 'no parts'
+rm count/tests/parts.txt
+run count/check
+ends 2 '' 'no table of parts'
+leaves_nothing 'no table of parts'
 
 # What two parts write at once is not mixed.
 checkout lines <<end
