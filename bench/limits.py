@@ -5,7 +5,6 @@ usage: python3 bench/limits.py PROGRAM [WORD..]      all cases, or those whose n
 Each call has 8 GB of memory (ulimit -v), 8 MiB of stack and 600 s of processor time; one that takes more ends with status -24.
 """
 import os
-import re
 import resource
 import subprocess
 import sys

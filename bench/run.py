@@ -290,7 +290,15 @@ def arguments():
     words.add_argument("--other")
     words.add_argument("--no-icarus", action="store_true")
     words.add_argument("--runs", type=int, default=7)
-    return words.parse_intermixed_args()
+    given = words.parse_intermixed_args()
+    unknown = set(given.size) - {case[0] for case in cases_of_table()}
+    if given.table and unknown:
+        words.error(f"no row of the table: {', '.join(sorted(unknown))}")
+    if not given.table and given.size and not (len(given.size) in (2, 3) and all(map(str.isdecimal, given.size[:2]))):
+        words.error("a size is WIDTH HEIGHT, and NAME may follow")
+    if given.runs < 1:
+        words.error("--runs is 1 at least")
+    return given
 
 
 def main():

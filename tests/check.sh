@@ -37,9 +37,10 @@ says() {
     grep -qxF -e "$1" stderr || wrong "$2: no line '$1' in: $(cat stderr)"
 }
 
-# leaves_nothing NAME: no process of a part is left, and no file. (Parts that sleep do so for 98765 seconds.)
+# leaves_nothing NAME: no process of a part is left, and no file. (Parts that sleep do so for these seconds, which no other call of this test has.)
+export seconds="98765.$$"
 leaves_nothing() {
-    left=$(grep -lsz '^98765' /proc/[0-9]*/cmdline)
+    left=$(grep -lszx "98765\.$$" /proc/[0-9]*/cmdline)
     [ -z "$left" ] || wrong "$1: a process is left"
     # shellcheck disable=SC2046
     [ -z "$left" ] || kill -s KILL $(printf '%s\n' "$left" | cut -d / -f 3) 2>/dev/null
@@ -57,19 +58,23 @@ part counted <<'end'
 echo 'case 2 is wrong' >&2
 echo '3 passed, 1 failed'
 end
+part wrongly <<'end'
+echo '2 passed, 0 failed'
+exit 3
+end
 part uncounted <<'end'
 echo 'no count'
 end
 part slow <<'end'
-timeout 98765 sleep 98765 &
+timeout "$seconds" sleep "$seconds" &
 echo 'begins'
-sleep 98765
+sleep "$seconds"
 end
 part leaving <<'end'
 mkdir "$TMPDIR/closed"
 : >"$TMPDIR/closed/file"
 chmod 0 "$TMPDIR/closed"
-sleep 98765 &
+sleep "$seconds" &
 end
 for name in first second; do
     printf 'for word in 1 2 3; do echo %s $word; sleep 0.2; done\n' $name | part lines_$name
@@ -100,6 +105,22 @@ end
 run one/check
 ends 0 '1 passed, 0 failed' 'one part'
 [ ! -s stderr ] && [ "$(wc -l <stdout)" = 1 ] || wrong "one part writes more than its count: $(cat stdout stderr)"
+
+# A part that fails after a count without a failure; a table whose last line has no end; and no table, or none of its parts
+checkout count <<end
+counts|sh tests/wrongly|
+end
+printf 'holds|sh tests/good|this is good' >>count/tests/parts.txt
+run count/check
+ends 1 '3 passed, 1 failed' 'a count and a status'
+says 'check: sh tests/wrongly: ended with status 3' 'a count and a status'
+: >count/tests/parts.txt
+run count/check
+ends 1 '0 passed, 0 failed' 'no parts'
+rm count/tests/parts.txt
+run count/check
+ends 2 '' 'no table of parts'
+leaves_nothing 'no table of parts'
 
 # What two parts write at once is not mixed.
 checkout lines <<end
@@ -172,7 +193,7 @@ ends 2 '' 'no folder for files'
 
 # Without python3 its parts are passed over.
 mkdir tools
-for tool in $(sed -n '/^for tool in/,/; do$/p' "$top/check" | tr -d '\\\\;' | sed 's/^for tool in//; s/ do$//') sh env; do
+for tool in $(sed -n '/^for tool in/,/; do$/p' "$top/check" | tr -d '\\\\;' | sed 's/^for tool in//; s/ do$//') sh; do
     ln -s "$(command -v "$tool")" tools
 done
 checkout python <<end

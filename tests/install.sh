@@ -54,7 +54,7 @@ everything() {
 }
 
 # Words that it refuses
-for words in '--prefix' '--prefix usr' '--prefix=' '--dest' 'all' '--uninstall --all'; do
+for words in '--prefix' '--prefix usr' '--prefix=' '--prefix /usr/../local' '--prefix=/.' '--dest' 'all' '--uninstall --all'; do
     # shellcheck disable=SC2086
     ! install_dk --dest root $words || wrong "tools/install.sh accepts $words"
 done
@@ -261,7 +261,20 @@ everything root >before
 install_dk --dest root --uninstall && install_dk --dest root || wrong "uninstalling and installing: $(cat "$work/said")"
 everything root | diff before - || wrong 'the end of an installation leaves something'
 [ "$(cat root/usr/local/lib/dk/VERSION)" = "$version" ] || wrong 'an upgrade leaves an old file'
-install_dk --dest root --uninstall
+# (what cannot be removed stays in the list, and the next call removes it)
+cat >stubs/rm <<END
+#!/bin/sh
+case \$* in
+*/root/usr/local/bin/dk) exit 1 ;;
+esac
+exec "$(command -v rm)" "\$@"
+END
+chmod +x stubs/rm
+PATH=$work/stubs:$plain
+! install_dk --dest root --uninstall || wrong 'a file that cannot be removed is not noticed'
+PATH=$plain
+[ -x root/usr/local/bin/dk ] || wrong 'the stub of rm was not called'
+install_dk --dest root --uninstall || wrong "uninstalling again: $(cat "$work/said")"
 [ "$(find root -mindepth 1)" = 'root/usr
 root/usr/local' ] || wrong "uninstalling leaves $(find root)"
 

@@ -122,7 +122,9 @@ fails() {
 
 # counts WORDS: adds what the last line of a part says, which is not printed
 counts() {
+    before=$failed
     counted "$1" "$(tail -n 1 "$here/out")"
+    [ "$status" = 0 ] || [ "$failed" != "$before" ] || fails "$1: ended with status $status"
     head -n -1 "$here/out" >"$here/rest"
     mv "$here/rest" "$here/out"
 }
@@ -144,7 +146,7 @@ counted() {
 # ends with its count; of the kind `holds` it is one case, and TEXT says what is wrong where it fails.
 run_parts() {
     processors=$(nproc)
-    while IFS= read -r line; do
+    while IFS= read -r line || [ -n "$line" ]; do
         case $line in '' | '#'*) continue ;; esac
         [ "$running" -lt "$processors" ] || end_part
         begin_part "$line"

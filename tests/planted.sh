@@ -14,6 +14,12 @@ clean() {
         rmdir "crates/$crate/must-fail" 2>/dev/null
     done
 }
+for crate; do
+    [ -d "tests/planted/$crate" ] || {
+        echo "planted: $crate has no planted bodies" >&2
+        exit 2
+    }
+done
 trap 'clean "$@"' EXIT
 trap 'exit 130' INT TERM HUP
 for crate; do

@@ -176,20 +176,25 @@ mkdir few
 for tool in cat chmod cut date dirname find flock head mkdir mktemp mv readlink rm sed sh sort stat tail tr wc xargs; do
     ln -s "$(PATH=$plain command -v $tool)" few
 done
-# unsummed TEXT: the last call of ./dk said in one line that the sums cannot be computed, and ended with status 1
+# unsummed TEXT REASON: the last call of ./dk said in one line that the sums cannot be computed, with this reason, and ended with status 1
 unsummed() {
-    [ "$status" = 1 ] && [ "$(wc -l <stderr)" = 1 ] && grep -q '^dk: the checksums .* cannot be computed: .*sha256sum' stderr || wrong "$1: status $status, $(cat stderr)"
+    [ "$status" = 1 ] && [ "$(wc -l <stderr)" = 1 ] && grep -q "^dk: the checksums .* cannot be computed: .*$2" stderr || wrong "$1: status $status, $(cat stderr)"
 }
 PATH=$work/few first/checkout/dk plan 2>stderr
 status=$?
-unsummed 'no sha256sum'
+unsummed 'no sha256sum' sha256sum
 cp -r first failing
 mkdir calls
 printf 'echo "sha256sum: a failure" >&2\nexit 1\n' | tee calls/before2 calls/before3 calls/before4 calls/before5 >calls/before6
 failing/checkout/dk plan 2>stderr
 status=$?
-unsummed 'a sha256sum that fails'
+unsummed 'a sha256sum that fails' sha256sum
 rm -r calls
+cp -r first unlisted
+rm unlisted/checkout/crates.txt
+unlisted/checkout/dk plan 2>stderr
+status=$?
+unsummed 'no crates.txt' 'crates\.txt'
 
 # A program that may not be executed, by its mode or its file system
 cp -r first mode

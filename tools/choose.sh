@@ -85,7 +85,6 @@ find_program() {
         # (nobody need wait for a call that notes nothing)
         flock -u 8 2>/dev/null
     fi
-    . tools/sources.sh
     begun=$(date +%s 2>/dev/null)
     choose 2>/dev/null || return
     echo "$program"
@@ -130,8 +129,13 @@ if is_noted; then
     echo "$program"
     exit
 fi
-find_program 8<crates.txt
-status=$?
+. tools/sources.sh
+# (a redirection that fails would say so, and its status depends on the shell)
+status=2
+[ ! -r crates.txt ] || {
+    find_program 8<crates.txt
+    status=$?
+}
 [ "$status" = 0 ] || {
     say_why "$status" >&2
     exit 1

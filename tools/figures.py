@@ -394,7 +394,8 @@ def write(part):
 
 
 def main(words):
-    writes, words = words[:1] == ["--write"], [word for word in words if word != "--write"]
+    writes = words[:1] == ["--write"]
+    words = words[writes:]
     if len(words) != 1 or words[0].startswith("-"):
         sys.exit(__doc__)
     for part in parts(words[0]):

@@ -52,6 +52,8 @@ def note(out, pid, seen, state):
 
 
 def watch(root, path):
+    if root not in processes(root):
+        raise OSError(f"no process {root}")
     seen, turn = {}, 0
     with open(path, "a", encoding="utf-8") as out:
         while True:

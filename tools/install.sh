@@ -66,6 +66,9 @@ read_options() {
     /*) prefix=${prefix%"${prefix##*[!/]}"} ;;
     *) fail 'the prefix must begin with /' ;;
     esac
+    case $prefix/ in
+    */./* | */../*) fail 'the prefix may not go through . or ..' ;;
+    esac
     case $dest in
     '' | /*) ;;
     *) dest=$PWD/$dest ;;
@@ -260,7 +263,7 @@ take_back() {
 }
 
 missing=
-for tool in cat cp dirname find install ln mkdir mktemp mv rm rmdir sed sha256sum sort tac tr xargs; do
+for tool in cat cp cut dirname find install ln mkdir mktemp mv rm rmdir sed sha256sum sort tac tr xargs; do
     command -v "$tool" >/dev/null || missing="$missing $tool"
 done
 [ -z "$missing" ] || {
@@ -274,7 +277,9 @@ before=
 [ -z "$before" ] || [ "${before%%"$newline"*}" = "prefix $prefix" ] || fail "$list is of another prefix"
 if [ -n "$is_removal" ]; then
     [ -n "$before" ] || fail "nothing is installed: there is no $list"
-    remove_files "$before" || fail 'not all files could be removed'
+    # (the list is the last file: where another one stays, the next call removes it)
+    remove_files "$before" "file $prefix/lib/dk/installed" || fail 'not all files could be removed'
+    rm -f -- "$list" 2>/dev/null || fail "cannot remove $list"
     remove_folders "$before"
     exit 0
 fi
@@ -285,7 +290,10 @@ built=bin/dk
 is_of_sources bin/dk || {
     built=build/dk
     is_of_sources build/dk
-} || fail 'neither bin/dk nor build/dk was built from these sources (docs/BUILDING.md)'
+} || {
+    [ "$?" != 2 ] || fail 'the checksums of the sources or of the program cannot be computed'
+    fail 'neither bin/dk nor build/dk was built from these sources (docs/BUILDING.md)'
+}
 [ -z "$dest" ] || mkdir -p -- "$dest" || exit 1
 made=
 files=
