@@ -9,7 +9,7 @@ unset DK_CHECK_SECONDS
 
 # checkout FOLDER: a checkout whose parts are those of standard input
 checkout() {
-    mkdir -p "$1/tests" "$1/tools" && cp "$top/check" "$1" && cp "$top/tools/sources.sh" "$1/tools" && cp "$top/tests/parts.sh" scripts/* "$1/tests" || exit 2
+    mkdir -p "$1/tests" "$1/tools/dk" && cp "$top/check" "$1" && cp "$top/tools/dk/sources.sh" "$1/tools/dk" && cp "$top/tests/parts.sh" scripts/* "$1/tests" || exit 2
     cat >"$1/tests/parts.txt"
 }
 
@@ -226,7 +226,7 @@ if [ "${1-}" = --whole ]; then
     echo '// changed' >>"it's a copy/crates/dk/src/main.rt"
     run timeout 400 "it's a copy/check"
     ends 1 "$(tail -n 1 stdout)" 'an edited checkout'
-    says 'check: sh tests/shipped.sh: the shipped program is not of these sources (tools/ship.sh)' 'an edited checkout'
+    says 'check: sh tests/shipped.sh: the shipped program is not of these sources (tools/dev/ship.sh)' 'an edited checkout'
     leaves_nothing 'an edited checkout'
     copied twice
     timeout 400 twice/check >stdout_2 2>&1 &

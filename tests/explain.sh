@@ -1,5 +1,5 @@
 #!/bin/sh
-# Compares what tools/explain.sh says of worked faults with texts written by hand. Says nothing where all is right, and else names each case.
+# Compares what tools/dk/explain.sh says of worked faults with texts written by hand. Says nothing where all is right, and else names each case.
 # With PROGRAM it also checks that the program ends with the status and the line of each case.
 # usage: tests/explain.sh [PROGRAM]
 . "$(dirname -- "$0")/lib.sh" || exit 2
@@ -8,7 +8,7 @@ program=
 in_folder
 called=./dk
 docs=docs
-. "$top/tools/explain.sh"
+. "$top/tools/dk/explain.sh"
 usage=$(usage_line)
 
 # says STATUS LINE WORD..: the explanation is that of standard input
@@ -350,10 +350,10 @@ awk -F '|' '
     /^\|[^|]*\| `(program|image|verilog|stopped|report|widen)( S-E)?: / && $2 !~ /[:`]/ { match($3, /[a-z]+/); add(substr($3, RSTART, RLENGTH), $3) }
     /^- The kinds of a Verilog fault are/ { sub(/ They are judged.*/, ""); add("verilog", $0) }
 ' "$top/docs/COMMANDS.md" | sort -u >listed
-sed -n 's/^    \([a-z]*\.[A-Za-z]*\)) .*/\1/p' "$top/tools/faults.sh" | sort >explained
+sed -n 's/^    \([a-z]*\.[A-Za-z]*\)) .*/\1/p' "$top/tools/dk/faults.sh" | sort >explained
 grep -v '^program\.' explained >others
 grep -v '^program\.' listed >listed_others
-diff listed_others others >difference || wrong "docs/COMMANDS.md (<) and tools/faults.sh (>) have other faults: $(cat difference)"
+diff listed_others others >difference || wrong "docs/COMMANDS.md (<) and tools/dk/faults.sh (>) have other faults: $(cat difference)"
 while read -r fault; do
     [ -n "$(meaning "${fault%.*}" "${fault#*.}" 1 2 3 4 5)" ] || wrong "no sentence on $fault"
 done <explained

@@ -1,5 +1,5 @@
 #!/usr/bin/env python3
-"""Compares the figures of the documentation that a program dk computes with those that tools/figures.py prints. Names each line that differs,
+"""Compares the figures of the documentation that a program dk computes with those that tools/dev/figures.py prints. Names each line that differs,
 and ends with status 1 if there is one.
 
 usage: python3 tests/figures.py [--all] PROGRAM      --all also compares what takes a second
@@ -11,7 +11,7 @@ import sys
 TOP = os.path.join(os.path.dirname(os.path.abspath(__file__)), "..")
 sys.dont_write_bytecode = True
 # in front, as a script of that folder has the name of this one
-sys.path.insert(0, os.path.join(TOP, "tools"))
+sys.path.insert(0, os.path.join(TOP, "tools", "dev"))
 import figures  # noqa: E402
 
 

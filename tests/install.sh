@@ -16,7 +16,7 @@ for name in CHANGELOG.md VERSION docs editors examples tests tools; do
     ln -s "$top/$name" checkout
 done
 (
-    CDPATH='' cd -- checkout && . tools/sources.sh || exit 2
+    CDPATH='' cd -- checkout && . tools/dk/sources.sh || exit 2
     echo 'kit a kit'
     echo "program $(sha256sum bin/dk | cut -d ' ' -f 1)"
     source_lines
@@ -166,7 +166,7 @@ done >"$work/dangling"
 
 # Each script of tools/ that a page names is installed, or COMMANDS.md names it as one of the checkout.
 of_checkout=$(sed -n 's/^- Scripts that only the checkout has: \(.*\)\.$/\1/p' COMMANDS.md)
-for name in $(cat -- *.md ../CHANGELOG.md ../examples/README.md | grep -o '\btools/[a-z_]*\(\.[a-z]\{1,\}\)\{0,1\}' | sort -u); do
+for name in $(cat -- *.md ../CHANGELOG.md ../examples/README.md | grep -o '\btools/[a-z_/]*\(\.[a-z]\{1,\}\)\{0,1\}' | sort -u); do
     case ", $of_checkout," in
     *", $name,"*) ;;
     *) [ -x "../$name" ] || wrong "the pages name $name, which is not installed" ;;

@@ -37,7 +37,7 @@ for text in "$examples"/verilog/*.v; do
     fi
 done
 # As root, Icarus Verilog sets the mode of the file that it writes, and then no other user's shell can write to /dev/null.
-found=$(grep -n 'iverilog .*-o /dev/null' "$tests"/*.sh "$tests"/../tools/*.sh | grep -v '/lint\.sh:')
+found=$(grep -n 'iverilog .*-o /dev/null' "$tests"/*.sh "$tests"/../tools/*.sh "$tests"/../tools/*/*.sh | grep -v '/lint\.sh:')
 [ -z "$found" ] || {
     echo "lint: iverilog -t null in place of: $found" >&2
     failed=1

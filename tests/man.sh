@@ -38,12 +38,12 @@ $options
 $statuses
 END
 for word in $commands $(printf '%s\n' "$options" | cut -d ' ' -f 1) help --help --version; do
-    for file in tools/completions/dk.bash tools/completions/_dk; do
+    for file in tools/dk/completions/dk.bash tools/dk/completions/_dk; do
         grep -qw -e "$word" "$file" || wrong "$file does not name $word"
     done
     case $word in
-    --*) grep -qw -e "-l ${word#--}" tools/completions/dk.fish ;;
-    *) grep -qw -e "-a $word" tools/completions/dk.fish ;;
-    esac || wrong "tools/completions/dk.fish does not name $word"
+    --*) grep -qw -e "-l ${word#--}" tools/dk/completions/dk.fish ;;
+    *) grep -qw -e "-a $word" tools/dk/completions/dk.fish ;;
+    esac || wrong "tools/dk/completions/dk.fish does not name $word"
 done
 exit "$failed"

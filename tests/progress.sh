@@ -1,5 +1,5 @@
 #!/bin/sh
-# What tools/progress.sh shows at a terminal beside a program that takes long: a script stands for the program, and `script` of util-linux for the
+# What tools/dk/progress.sh shows at a terminal beside a program that takes long: a script stands for the program, and `script` of util-linux for the
 # terminal. The last line is `N passed, M failed`.
 # usage: tests/progress.sh
 . "$(dirname -- "$0")/lib.sh" || exit 2
@@ -32,7 +32,7 @@ cat >call <<'end'
 built=./program
 called=dk
 docs=docs
-. "$top/tools/follow.sh"
+. "$top/tools/dk/follow.sh"
 end
 chmod +x program call
 export top

@@ -1,6 +1,6 @@
 #!/usr/bin/env python3
 """Whether a recipe of docs/CHANGING.md lists all that is to be changed: applies tests/recipes/NAME.edits to a copy of the checkout, builds the program
-there without proofs (tools/unproved.py), and compares what it writes with values worked out by hand. The operator is tried in each command that reads
+there without proofs (tools/dev/unproved.py), and compares what it writes with values worked out by hand. The operator is tried in each command that reads
 a program.
 
 usage: tests/recipes.py [NAME..]      NAME is operator, command, option or fault; each takes about four minutes, and needs the kit
@@ -170,7 +170,7 @@ def tried(name):
     with tempfile.TemporaryDirectory() as work:
         shutil.copytree(TOP, f"{work}/copy", ignore=shutil.ignore_patterns("out", ".git", "build"))
         apply(name, f"{work}/copy")
-        done = subprocess.run([sys.executable, f"{work}/copy/tools/unproved.py", f"{work}/dk"], capture_output=True, text=True, check=False)
+        done = subprocess.run([sys.executable, f"{work}/copy/tools/dev/unproved.py", f"{work}/dk"], capture_output=True, text=True, check=False)
         if done.returncode:
             sys.exit(f"recipes: the program of {name} is not built: {(done.stderr + done.stdout).strip()[-600:]}")
         os.mkdir(f"{work}/calls")

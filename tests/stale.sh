@@ -10,7 +10,7 @@ program() {
     printf '#!/bin/sh\necho %s\n' "$2" >"$1"
     chmod +x "$1"
     (
-        CDPATH='' cd -- "${1%/*}/.." && . tools/sources.sh || exit 2
+        CDPATH='' cd -- "${1%/*}/.." && . tools/dk/sources.sh || exit 2
         echo "program $(sha256sum "${1##*/checkout/}" | cut -d ' ' -f 1)"
         source_lines
     ) >"$1.txt"
@@ -130,7 +130,7 @@ wait
 [ "$(grep -c '^bin/dk$' log)" = 1 ] || wrong "of 20 calls at once $(grep -c '^bin/dk$' log) sum"
 rm log
 if command -v flock >/dev/null; then
-    sed -i 's/^patience=.*/patience=1/' held/checkout/tools/choose.sh
+    sed -i 's/^patience=.*/patience=1/' held/checkout/tools/dk/choose.sh
     (flock 8 && : >locked && exec sleep 100) 8<held/checkout/crates.txt &
     holder=$!
     until [ -e locked ]; do
@@ -354,8 +354,8 @@ done
 [ ! -e built ] || wrong 'the help began a build'
 
 # Folders of CDPATH are not looked at.
-mkdir -p cdpath/rest/checkout/tools cdpath/checkout/tools
-echo 'echo ../../wrong' | tee cdpath/rest/checkout/tools/choose.sh cdpath/checkout/tools/choose.sh >/dev/null
+mkdir -p cdpath/rest/checkout/tools/dk cdpath/checkout/tools/dk
+echo 'echo ../../wrong' | tee cdpath/rest/checkout/tools/dk/choose.sh cdpath/checkout/tools/dk/choose.sh >/dev/null
 printf '#!/bin/sh\necho wrong\n' >wrong
 chmod +x wrong
 edit rest
@@ -368,7 +368,7 @@ done
 got=$(CDPATH='' cd -- rest && checkout/dk plan 2>/dev/null)
 [ "$? $got" = '1 ' ] || wrong "with CDPATH checkout/dk: $got"
 unset CDPATH
-grep -nE '(^|[^-.[:alnum:]])cd [^|]' "$top/dk" "$top/check" "$top"/tools/*.sh "$top"/tests/*.sh | grep -v "CDPATH='' cd -- \|'(^|" >found && wrong "a cd that looks at CDPATH: $(cat found)"
+grep -nE '(^|[^-.[:alnum:]])cd [^|]' "$top/dk" "$top/check" "$top"/tools/*.sh "$top"/tools/*/*.sh "$top"/tests/*.sh | grep -v "CDPATH='' cd -- \|'(^|" >found && wrong "a cd that looks at CDPATH: $(cat found)"
 
 # Without a tool that it needs, ./check says so and tries nothing.
 cp "$top/check" rest/checkout

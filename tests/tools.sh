@@ -4,7 +4,7 @@
 # - Icarus Verilog (-g2005 -Wall) and Verilator (--lint-only -Wall) may warn of nothing but the forms that "warnings" below names.
 # - From random contents at power-up, both simulators must show the picture that `run` writes; with `--enable`, with clocks that are held at random.
 # - Yosys must find each array as one memory, with as many memory bits in all as `plan` says, and must synthesize the text.
-#   With `--block 32` it must make at least one block memory of each array of 512 words and more, in each of five families (tools/memories.py).
+#   With `--block 32` it must make at least one block memory of each array of 512 words and more, in each of five families (tools/dev/memories.py).
 # - trace.py must write the trace that `trace` writes.
 # - The design of examples/design must show the pictures of `eval`.
 # - Vim must show the groups of tests/editors.py.
@@ -148,6 +148,6 @@ if has verilator; then
     mkdir -p examples && cp -r "$examples/design" examples || exit 2
     make -s -C examples/design DK="$program" PROGRAMS="$examples/programs" test >said.txt 2>&1 || wrong "examples/design: $(tail -n 3 said.txt)"
 fi
-! has yosys || python3 "$tests/../tools/memories.py" --check "$program" || wrong "memories.py"
+! has yosys || python3 "$tests/../tools/dev/memories.py" --check "$program" || wrong "memories.py"
 ! has vim || python3 "$tests/editors.py" --vim || wrong "editors.py"
 [ "$failed" = 0 ]

@@ -1,5 +1,5 @@
 #!/usr/bin/env python3
-"""Unpacks texts of `compile --block 32` by tools/unpack.py, and compares the arrays with those of the text without packing.
+"""Unpacks texts of `compile --block 32` by tools/dev/unpack.py, and compares the arrays with those of the text without packing.
 
 usage: tests/unpack.py PROGRAM
 
@@ -16,7 +16,7 @@ import tempfile
 
 TOP = os.path.dirname(os.path.dirname(os.path.realpath(__file__)))
 sys.dont_write_bytecode = True
-sys.path.insert(0, f"{TOP}/tools")
+sys.path.insert(0, f"{TOP}/tools/dev")
 import unpack  # noqa: E402
 
 EXAMPLES = [("pipelines", "isp"), ("programs", "harris"), ("pipelines", "corners")]

@@ -23,8 +23,8 @@ def say(text):
 
 
 def shell(command, folder):
-    """What the functions of tools/sources.sh say of the crates in this folder."""
-    told = subprocess.run(["sh", "-c", f'. "$0" && {command}', f"{TOP}/tools/sources.sh"], cwd=folder, stdout=subprocess.PIPE, check=True, text=True)
+    """What the functions of tools/dk/sources.sh say of the crates in this folder."""
+    told = subprocess.run(["sh", "-c", f'. "$0" && {command}', f"{TOP}/tools/dk/sources.sh"], cwd=folder, stdout=subprocess.PIPE, check=True, text=True)
     return told.stdout.splitlines()
 
 

@@ -161,16 +161,16 @@ put_program() {
     put 644 "$built.txt" lib/dk/bin/dk.txt
     put 644 VERSION lib/dk/VERSION
     for name in answer.sh explain.sh faults.sh follow.sh help.awk help.sh progress.sh words.sh; do
-        put 644 "tools/$name" "lib/dk/tools/$name"
+        put 644 "tools/dk/$name" "lib/dk/tools/dk/$name"
     done
-    put 755 tools/installed.sh bin/dk
+    put 755 tools/dk/installed.sh bin/dk
 }
 
 put_texts() {
     put 644 docs/dk.1 share/man/man1/dk.1
-    put 644 tools/completions/dk.bash share/bash-completion/completions/dk
-    put 644 tools/completions/_dk share/zsh/site-functions/_dk
-    put 644 tools/completions/dk.fish share/fish/vendor_completions.d/dk.fish
+    put 644 tools/dk/completions/dk.bash share/bash-completion/completions/dk
+    put 644 tools/dk/completions/_dk share/zsh/site-functions/_dk
+    put 644 tools/dk/completions/dk.fish share/fish/vendor_completions.d/dk.fish
     for kind in compiler ftdetect ftplugin syntax; do
         put 644 "editors/vim/$kind/dk.vim" "share/dk/editors/vim/$kind/dk.vim"
     done
@@ -284,8 +284,8 @@ if [ -n "$is_removal" ]; then
     exit 0
 fi
 
-# shellcheck source=tools/sources.sh
-CDPATH='' cd -- "$top" && . tools/sources.sh || exit 2
+# shellcheck source=tools/dk/sources.sh
+CDPATH='' cd -- "$top" && . tools/dk/sources.sh || exit 2
 built=bin/dk
 is_of_sources bin/dk || {
     built=build/dk

@@ -1,7 +1,7 @@
 #!/usr/bin/env python3
 """Prints the figures of the documentation that a program dk computes: bits, latencies, arrays, registers, assigns, definitions, levels.
 
-usage: python3 tools/figures.py [--write] PROGRAM      PROGRAM is bin/dk or another built program
+usage: python3 tools/dev/figures.py [--write] PROGRAM      PROGRAM is bin/dk or another built program
 
 Each part has the page, the commands, and then the lines that the page has: rows of a table, or sentences. A part of a line that no command
 of dk computes, as a clock rate, is `..`. --write puts the rows into the tables of the pages, and prints only the sentences that a page
@@ -13,7 +13,7 @@ import subprocess
 import sys
 import tempfile
 
-TOP = os.path.join(os.path.dirname(os.path.abspath(__file__)), "..")
+TOP = os.path.join(os.path.dirname(os.path.abspath(__file__)), "..", "..")
 sys.dont_write_bytecode = True
 sys.path += [os.path.join(TOP, "tools"), os.path.join(TOP, "bench")]
 import kept  # noqa: E402
@@ -349,7 +349,7 @@ def placed(_):
     text = page("docs/GALLERY.md")
     today = {cells[0]: cells[1:] for cells in map(cells_of, text.split("### Today's texts")[1].splitlines()) if len(cells) == 5}
     larger = {cells[1]: cells[2:] for cells in map(cells_of, text.split("### On an ECP5")[1].splitlines()) if cells[0] == "640 by 480"}
-    source = ["tools/place.py; docs/GALLERY.md, Today's texts and On an ECP5, has the figures"]
+    source = ["tools/dev/place.py; docs/GALLERY.md, Today's texts and On an ECP5, has the figures"]
     rates = {name: [cell.split(": ")[1][:-4] for cell in today[name]] for name in ("gaussian3", "sobel", "median")}
     yield Part("docs/CUT.md", source, [row(name, *found, OPEN, OPEN) for name, found in rates.items()], head="| Program | `--block 32` | uncut |")
     block, fast, _, cut = today["gaussian3"]

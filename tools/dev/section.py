@@ -8,7 +8,7 @@ import re
 import subprocess
 import threading
 
-DOCS = os.path.join(os.path.dirname(os.path.abspath(__file__)), "..", "docs")
+DOCS = os.path.join(os.path.dirname(os.path.abspath(__file__)), "..", "..", "docs")
 GALLERY, PIPELINES = os.path.join(DOCS, "GALLERY.md"), os.path.join(DOCS, "PIPELINES.md")
 
 

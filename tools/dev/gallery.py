@@ -1,8 +1,8 @@
 #!/usr/bin/env python3
 """Makes the pictures of docs/GALLERY.md by a built program.
 
-usage: tools/gallery.py PROGRAM [FOLDER]      FOLDER is docs/gallery by default
-       tools/gallery.py --check PROGRAM       compares only the plans of docs/gallery, which takes seconds
+usage: tools/dev/gallery.py PROGRAM [FOLDER]      FOLDER is docs/gallery by default
+       tools/dev/gallery.py --check PROGRAM       compares only the plans of docs/gallery, which takes seconds
 
 For each line of examples/programs/pictures.txt it writes
     INPUT.png        the input, made here by formulas, with frames of 256 by 192
@@ -18,7 +18,7 @@ import subprocess
 import sys
 import tempfile
 
-TOP = os.path.join(os.path.dirname(os.path.abspath(__file__)), "..")
+TOP = os.path.join(os.path.dirname(os.path.abspath(__file__)), "..", "..")
 sys.dont_write_bytecode = True
 sys.path += [os.path.join(TOP, "tests"), os.path.join(TOP, "tools")]
 import pictures as formulas  # noqa: E402

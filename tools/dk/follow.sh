@@ -29,7 +29,7 @@ explain_module() {
         LC_ALL=C
         export LC_ALL
         said=
-        . "$top/tools/explain.sh"
+        . "$top/tools/dk/explain.sh"
         explain_fault
     }
     exit "$status"
@@ -101,7 +101,7 @@ begin_to_watch() {
     [ -t 2 ] && [ -r /proc/uptime ] || return 0
     shift
     (
-        . "$top/tools/progress.sh"
+        . "$top/tools/dk/progress.sh"
         watch "$@"
     ) 9<&- </dev/null >/dev/null &
     watcher=$!
@@ -160,7 +160,7 @@ ask_again() {
 follow "$built" "$@"
 # (what `explain` has printed of a fault is not printed again)
 if [ -z "$signal" ] && [ "$status" != 0 ] && [ "${1-} $status" != 'explain 3' ]; then
-    . "$top/tools/explain.sh"
+    . "$top/tools/dk/explain.sh"
     ask_again "$@"
     [ -n "$signal" ] || explain "$status" "$line" "$@"
 fi

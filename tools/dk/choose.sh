@@ -15,7 +15,7 @@ listed() {
     for file in build/dk.txt build/dk bin/dk.txt bin/dk; do
         [ ! -e "$file" ] || set -- "$file" "$@"
     done
-    LC_ALL=C find -L dk tools/choose.sh tools/sources.sh crates.txt "$@" 2>&1
+    LC_ALL=C find -L dk tools/dk/choose.sh tools/dk/sources.sh crates.txt "$@" 2>&1
 }
 
 digest() {
@@ -129,7 +129,7 @@ if is_noted; then
     echo "$program"
     exit
 fi
-. tools/sources.sh
+. tools/dk/sources.sh
 # (a redirection that fails would say so, and its status depends on the shell)
 status=2
 [ ! -r crates.txt ] || {

@@ -8,7 +8,7 @@ import shutil
 import subprocess
 import sys
 
-top = os.path.dirname(os.path.dirname(os.path.abspath(__file__)))
+top = os.path.dirname(os.path.dirname(os.path.dirname(os.path.abspath(__file__))))
 to, crate = sys.argv[1:3]
 wanted = set(sys.argv[3].split(",")) if len(sys.argv) > 3 else None
 deps = {}
@@ -43,7 +43,7 @@ while work:
 os.makedirs(f"{to}/crates", exist_ok=True)
 for name in order:
     folder = f"{to}/crates/{name}"
-    subprocess.check_call([sys.executable, f"{top}/tools/stub.py", f"{top}/crates/{name}", folder])
+    subprocess.check_call([sys.executable, f"{top}/tools/dev/stub.py", f"{top}/crates/{name}", folder])
     keep = sorted(low for owner, low in kept if owner == name)
     if name == crate:
         keep = sorted({file[:-5] for file in lemmas if file != "Lib.antt"} | set(keep))

@@ -4,7 +4,7 @@ each function is a hole. The prover takes such a function by its contract, so th
 
 A function of the upper crate is done if each hole that it stands on is one of a copy. Trait methods of an impl and cycles of calls keep their proofs.
 
-usage: tools/holes.py CRATE [FLAG..]
+usage: tools/dev/holes.py CRATE [FLAG..]
 
 The flags go to `rattle check`, as `--only CRATE::module::function`. The copies, and what is kept of the last check, are in a folder for temporary files.
 """
@@ -21,7 +21,7 @@ KIT = os.path.dirname(os.popen("rt doc").read())
 sys.path.insert(0, KIT + "/bin")
 import rtlib
 
-TOP = os.path.dirname(os.path.dirname(os.path.abspath(__file__)))
+TOP = os.path.dirname(os.path.dirname(os.path.dirname(os.path.abspath(__file__))))
 HOLES = f"{tempfile.gettempdir()}/holes-of-{os.path.basename(TOP)}"
 FUNCTION = r"(?:pub(?:\([^)]*\))?\s+)?(?:const\s+)?fn\s+(\w+)"
 TYPE = r"(?m)^(?:pub(?:\([^)]*\))?\s+)?(?:struct|enum)\s+(\w+)"

@@ -14,7 +14,7 @@ page=$prefix/share/man/man1/dk.1
 
 # (a shell that cannot go on would end with status 2, which is Usage)
 trap 'exit 1' EXIT
-. "$top/tools/answer.sh"
+. "$top/tools/dk/answer.sh"
 built=$top/bin/dk
 [ -e "$built" ] || {
     echo 'dk: lib/dk/bin/dk of its prefix is missing; install dk again' >&2
@@ -23,4 +23,4 @@ built=$top/bin/dk
 trap - EXIT
 answer_help "$@"
 answer_version "$@"
-. "$top/tools/follow.sh"
+. "$top/tools/dk/follow.sh"

@@ -1,6 +1,6 @@
 # Writes the help of one command from the man page: its line of the synopsis, its entry, and the entries of its options and words.
 # It ends with status 1 if the page has no such command.
-# usage: awk -v command=COMMAND -v called=dk -f tools/help.awk docs/dk.1
+# usage: awk -v command=COMMAND -v called=dk -f tools/dk/help.awk docs/dk.1
 
 function without_fonts(text) {
     gsub(/\\f[BIPR]/, "", text)

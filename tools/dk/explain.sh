@@ -1,12 +1,12 @@
-# Explains the faults of dk to a reader. The script dk sources this file after a fault; `top`, `called` and `docs` are those of tools/answer.sh.
+# Explains the faults of dk to a reader. The script dk sources this file after a fault; `top`, `called` and `docs` are those of tools/dk/answer.sh.
 # It uses the shell and coreutils only, so that it works wherever the program does. No loop goes over the bytes of a file.
 #
 # explain STATUS LINE WORD..    writes what helps next, to standard error; LINE is the fault line, or empty where it is not known, and the
 #                               words are those of the call; the variable `said` has what the program itself says of a program's fault
-# help_page                     writes the commands and options to standard output (tools/words.sh)
+# help_page                     writes the commands and options to standard output (tools/dk/words.sh)
 
-. "${top:?}/tools/words.sh"
-. "$top/tools/faults.sh"
+. "${top:?}/tools/dk/words.sh"
+. "$top/tools/dk/faults.sh"
 
 # The body is a subshell, so that no variable of the script dk is changed.
 explain() (

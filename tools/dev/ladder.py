@@ -1,10 +1,10 @@
 #!/usr/bin/env python3
 """The ladder: the clauses of the program's call, and each definition that they name, from the top down.
 
-    python3 tools/ladder.py            writes docs/LADDER.md and a file for each chapter, docs/ladder/NN-name.md
-    python3 tools/ladder.py --check    compares these files with the sources; ends with status 1 where one differs,
+    python3 tools/dev/ladder.py            writes docs/LADDER.md and a file for each chapter, docs/ladder/NN-name.md
+    python3 tools/dev/ladder.py --check    compares these files with the sources; ends with status 1 where one differs,
                                        is missing, or belongs to no chapter
-    python3 tools/ladder.py --counts   prints the number of definitions and lines of each chapter
+    python3 tools/dev/ladder.py --counts   prints the number of definitions and lines of each chapter
 
 It reads the sources and nothing else. A definition is shown once, in the first chapter that reaches it, after the
 definition that names it first. Names of the toolchain's library are not shown.
@@ -15,7 +15,7 @@ import re
 import sys
 from typing import NamedTuple
 
-TOP = os.path.join(os.path.dirname(os.path.abspath(__file__)), "..")
+TOP = os.path.join(os.path.dirname(os.path.abspath(__file__)), "..", "..")
 INDEX = os.path.join(TOP, "docs", "LADDER.md")
 FOLDER = os.path.join(TOP, "docs", "ladder")
 WORD = re.compile(r"[^\s(){}\[\],;.]+")
@@ -320,7 +320,7 @@ def links(items, places, here):
 
 HEAD = """# The ladder
 
-These pages show what a reader of the proof has to believe: the clauses of the program's one call, and each definition that they name, from the top down, each once. `python3 tools/ladder.py` makes them from the sources, and `./check` compares them with the sources. Names of the toolchain's library (lists, options, numbers) are not shown. Structs and enums are those of the code.
+These pages show what a reader of the proof has to believe: the clauses of the program's one call, and each definition that they name, from the top down, each once. `python3 tools/dev/ladder.py` makes them from the sources, and `./check` compares them with the sources. Names of the toolchain's library (lists, options, numbers) are not shown. Structs and enums are those of the code.
 
 The theorem of the compiler comes first, on this page. Then read the first chapter; it takes about an hour. It also states what the line buffers hold and why their bits are minimal. The later chapters have the rest: texts and tokens, the rules of a well formed module, the form of a program, and the other commands.
 

@@ -2,7 +2,7 @@
 """Makes the pages of the crates from crates.txt and the README of each crate: crates/README.md, and the lists of docs/ARCHITECTURE.md between the lines
 `<!-- crates -->` and `<!-- end of crates -->`. Both have the stages, and one line a crate in the order in which they are proved.
 
-usage: tools/crates.py [--check]
+usage: tools/dev/crates.py [--check]
 
 --check compares instead, prints what is different, and then ends with status 1.
 
@@ -16,7 +16,7 @@ import re
 import sys
 from pathlib import Path
 
-TOP = Path(__file__).resolve().parent.parent
+TOP = Path(__file__).resolve().parents[2]
 SECTIONS = ["What a contract sees", "What is proved", "What is only tested", "Neither proved nor tested"]
 CLAIMING = ("What", "Neither", "Not")
 SAFE = "Each function is safe and returns"
@@ -26,7 +26,7 @@ HEAD = """# Crates
 
 The crates in the order in which they are proved: each comes after those that it uses. So the way of the data, from a text to a circuit and to the
 picture that the circuit shows, goes from the top to the bottom. The README of each crate has what is proved of it, and what is not.
-`python3 tools/crates.py` makes this page from crates.txt and the README of each crate."""
+`python3 tools/dev/crates.py` makes this page from crates.txt and the README of each crate."""
 
 
 class Fault(Exception):
@@ -106,7 +106,7 @@ def architecture(text, readmes):
 
 def main(arguments):
     if arguments not in ([], ["--check"]):
-        print("usage: tools/crates.py [--check]", file=sys.stderr)
+        print("usage: tools/dev/crates.py [--check]", file=sys.stderr)
         return 2
     readmes = {crate: Readme(crate) for _, crates in stages() for crate in crates}
     wrong = [fault for readme in readmes.values() for fault in readme.faults()]
@@ -115,7 +115,7 @@ def main(arguments):
         if not arguments:
             path.write_text(made, encoding="utf-8")
         elif not path.is_file() or text_of(path) != made:
-            wrong.append(f"{path.relative_to(TOP)} is not that of crates.txt and the crates' READMEs: python3 tools/crates.py")
+            wrong.append(f"{path.relative_to(TOP)} is not that of crates.txt and the crates' READMEs: python3 tools/dev/crates.py")
     print("\n".join(wrong), end="\n" if wrong else "")
     return 1 if wrong else 0
 

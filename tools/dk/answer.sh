@@ -8,7 +8,7 @@ answer_help() {
     topic=${1-}
     case $topic in
     help | --help | -h)
-        . "$top/tools/help.sh"
+        . "$top/tools/dk/help.sh"
         help "$@"
         exit
         ;;
@@ -17,7 +17,7 @@ answer_help() {
         case $word in
         --) return ;;
         --help | -h)
-            . "$top/tools/help.sh"
+            . "$top/tools/dk/help.sh"
             help help "$topic"
             exit
             ;;

@@ -1,7 +1,7 @@
 #!/usr/bin/env python3
 """Synthesizes the Verilog texts of the examples by Yosys and prints the table of docs/GALLERY.md.
 
-usage: tools/cells.py PROGRAM [NAME..]      NAME is an example without `.dk`; all examples by default
+usage: tools/dev/cells.py PROGRAM [NAME..]      NAME is an example without `.dk`; all examples by default
 """
 import glob
 import json
@@ -10,7 +10,7 @@ import subprocess
 import sys
 import tempfile
 
-EXAMPLES = os.path.join(os.path.dirname(os.path.dirname(os.path.abspath(__file__))), "examples")
+EXAMPLES = os.path.join(os.path.dirname(os.path.dirname(os.path.dirname(os.path.abspath(__file__)))), "examples")
 
 # Gates of one and two inputs, choices and flip-flops; memories are left whole.
 GATES = ("read_verilog dk.v; hierarchy -check -top dk; proc; opt_clean; tee -q -o memories.json stat -json; "

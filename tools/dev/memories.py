@@ -1,17 +1,17 @@
 #!/usr/bin/env python3
 """Synthesizes texts of `compile` with and without `--block 32` by Yosys, for five families of FPGA, and counts their cells.
 
-usage: tools/memories.py [--write] [--jobs N] [--minutes M] [--keep FILE] PROGRAM [EXAMPLE..]
+usage: tools/dev/memories.py [--write] [--jobs N] [--minutes M] [--keep FILE] PROGRAM [EXAMPLE..]
                                            prints a table of the cells at 1920 by 1080, with and without `--block 32`
-       tools/memories.py --packing [--write] PROGRAM [EXAMPLE..]
+       tools/dev/memories.py --packing [--write] PROGRAM [EXAMPLE..]
                                            prints a table of the block memories at 1920 by 1080, with and without packing
-       tools/memories.py --phases [--write] PROGRAM [EXAMPLE..]
+       tools/dev/memories.py --phases [--write] PROGRAM [EXAMPLE..]
                                            prints a table of the block memories at 1920 by 1080 of one, two, four and eight pixels a clock
-       tools/memories.py --check PROGRAM   says which family makes no block memory of an array of 512 words and more
+       tools/dev/memories.py --check PROGRAM   says which family makes no block memory of an array of 512 words and more
 
 Without names the examples are gaussian3, sobel, median and harris. `--write` puts the table in docs/GALLERY.md, with the date and
 Yosys's version; that of `--packing` in docs/HARDWARE.md, and that of `--phases` in docs/WIDEN.md. These two synthesize as far as block
-memories are made. The text without packing is that of tools/unpack.py. N syntheses run at a time; without `--jobs` two. A synthesis is ended after M minutes of processor time, without
+memories are made. The text without packing is that of tools/dev/unpack.py. N syntheses run at a time; without `--jobs` two. A synthesis is ended after M minutes of processor time, without
 `--minutes` ten, or at 6 GB, and then has no figures. A text whose arrays need more flip-flops than the greatest device of a family has is
 not synthesized. With `--keep` results are kept in FILE, and a text that has a result there is not synthesized again.
 """
@@ -31,9 +31,9 @@ sys.dont_write_bytecode = True
 import section
 import unpack
 
-EXAMPLES = os.path.join(os.path.dirname(os.path.abspath(__file__)), "..", "examples", "programs")
-HARDWARE = os.path.join(os.path.dirname(os.path.abspath(__file__)), "..", "docs", "HARDWARE.md")
-WIDEN = os.path.join(os.path.dirname(os.path.abspath(__file__)), "..", "docs", "WIDEN.md")
+EXAMPLES = os.path.join(os.path.dirname(os.path.abspath(__file__)), "..", "..", "examples", "programs")
+HARDWARE = os.path.join(os.path.dirname(os.path.abspath(__file__)), "..", "..", "docs", "HARDWARE.md")
+WIDEN = os.path.join(os.path.dirname(os.path.abspath(__file__)), "..", "..", "docs", "WIDEN.md")
 BYTES, BLOCK = 6 << 30, 32
 SIZE = "1920 1080"
 SHOWN = ["gaussian3", "sobel", "median", "harris"]
@@ -215,7 +215,7 @@ def main():
     section.write(section.GALLERY, "memories", [
         f"The frames are {SIZE.replace(' ', ' by ')}. Made on {section.today()} with Yosys {section.version('yosys', '-V')}{took}, by",
         "",
-        "    " + " ".join(["python3 tools/memories.py --write", *([f"--minutes {given.minutes}"] if given.minutes != 10 else []), os.path.relpath(program, os.path.dirname(os.path.dirname(os.path.abspath(__file__)))), *given.names]),
+        "    " + " ".join(["python3 tools/dev/memories.py --write", *([f"--minutes {given.minutes}"] if given.minutes != 10 else []), os.path.relpath(program, os.path.dirname(os.path.dirname(os.path.dirname(os.path.abspath(__file__))))), *given.names]),
         "",
         *lines,
     ])

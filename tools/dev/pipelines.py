@@ -1,7 +1,7 @@
 #!/usr/bin/env python3
 """Prints what the programs of examples/pipelines cost, and what three other ways to size their buffers would cost.
 
-usage: python3 tools/pipelines.py [--write] PROGRAM [NAME..]      NAME is a program of examples/pipelines; all by default
+usage: python3 tools/dev/pipelines.py [--write] PROGRAM [NAME..]      NAME is a program of examples/pipelines; all by default
 
 Each program is measured as written, after `narrow`, and after `narrow` and `cut 1`. Definitions, latency and bits are those of `plan`; after `cut 1` they
 are those of `plan --age 1`, as the text is compiled for speed. The other ways have the live reads and the widths of the same program:
@@ -19,7 +19,7 @@ import subprocess
 import sys
 import tempfile
 
-TOP = os.path.join(os.path.dirname(os.path.abspath(__file__)), "..")
+TOP = os.path.join(os.path.dirname(os.path.abspath(__file__)), "..", "..")
 sys.dont_write_bytecode = True
 sys.path.append(os.path.join(TOP, "tools"))
 import plan as plans  # noqa: E402

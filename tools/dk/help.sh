@@ -1,7 +1,7 @@
-# Writes the help of the script dk to standard output. tools/answer.sh sources this file for words that ask for help.
+# Writes the help of the script dk to standard output. tools/dk/answer.sh sources this file for words that ask for help.
 # shellcheck shell=sh disable=SC1091,SC2154
 
-. "${top:?}/tools/explain.sh"
+. "${top:?}/tools/dk/explain.sh"
 
 # help HELP [COMMAND]: the page of all commands, or the help of one
 help() {
@@ -24,7 +24,7 @@ help_on() {
         put "$wrong" >&2
         return 2
     }
-    awk -v command="$command" -v called="$called" -f "$top/tools/help.awk" "$page" 2>/dev/null || {
+    awk -v command="$command" -v called="$called" -f "$top/tools/dk/help.awk" "$page" 2>/dev/null || {
         help_page
         return
     }

@@ -1,7 +1,7 @@
 #!/usr/bin/env python3
 """Prints what casts bring to the programs of examples/pipelines, and how much of it `narrow` finds.
 
-usage: python3 tools/narrowing.py [--write] [--jobs N] [--minutes M] [--keep FILE] PROGRAM [NAME..]
+usage: python3 tools/dev/narrowing.py [--write] [--jobs N] [--minutes M] [--keep FILE] PROGRAM [NAME..]
                                   NAME is a program of examples/pipelines; all by default
 
 There are three texts of each program, at 1920 by 1080:
@@ -28,7 +28,7 @@ import tempfile
 sys.dont_write_bytecode = True
 import section
 
-TOP = os.path.dirname(os.path.dirname(os.path.abspath(__file__)))
+TOP = os.path.dirname(os.path.dirname(os.path.dirname(os.path.abspath(__file__))))
 FOLDER = os.path.join(TOP, "examples", "pipelines")
 SIZE = (1920, 1080)
 OPTIONS = ["--age", "1", "--block", "32"]
@@ -162,7 +162,7 @@ def main():
     if not given.write:
         print("\n".join(lines))
         return
-    command = " ".join(["python3 tools/narrowing.py --write", os.path.relpath(given.program, TOP), *given.names])
+    command = " ".join(["python3 tools/dev/narrowing.py --write", os.path.relpath(given.program, TOP), *given.names])
     section.write(section.GALLERY, "narrow", [
         f"Made on {section.today()} with Yosys {section.version('yosys', '-V')}, by", "", f"    {command}", "", *lines])
 

@@ -1,8 +1,8 @@
 #!/usr/bin/env python3
 """The processor time of the merge gate by crate: of its proof, its tests, and the wrong changes that the proofs must refuse.
 
-usage: tools/gate.py watch PID FILE    notes the processes below PID (that of `rt ci`) in FILE every five seconds, until PID ends
-       tools/gate.py table FILE        prints a table of the times of FILE, for docs/BENCH.md
+usage: tools/dev/gate.py watch PID FILE    notes the processes below PID (that of `rt ci`) in FILE every five seconds, until PID ends
+       tools/dev/gate.py table FILE        prints a table of the times of FILE, for docs/BENCH.md
 
 A process is read each second, so one that ends sooner is not in the table; the last lines say how much of all time the table has.
 It reads /proc, so it needs Linux.

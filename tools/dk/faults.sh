@@ -1,4 +1,4 @@
-# The table of faults, for tools/explain.sh. Faults of programs are explained by the program itself (`explain`), but for those that only an age has. docs/COMMANDS.md lists the same faults; tests/explain.sh compares the two.
+# The table of faults, for tools/dk/explain.sh. Faults of programs are explained by the program itself (`explain`), but for those that only an age has. docs/COMMANDS.md lists the same faults; tests/explain.sh compares the two.
 
 # meaning TEXT FAULT NUMBER..: one sentence on the fault; the numbers are those of the fault line.
 meaning() {

@@ -1,4 +1,4 @@
-# The words of a call of dk, for tools/explain.sh: what each is, and which is wrong; and the help page.
+# The words of a call of dk, for tools/dk/explain.sh: what each is, and which is wrong; and the help page.
 # `called` is the script's name for its caller, and `docs` is the folder of the pages, as both are shown.
 
 commands='run compile nets plan sim eval make check trace cut narrow widen explain'

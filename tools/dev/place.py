@@ -1,7 +1,7 @@
 #!/usr/bin/env python3
 """Places and routes the Verilog of programs, by Yosys and nextpnr, and prints a table of cells and clock rates for each frame size.
 
-usage: tools/place.py [--write] [--jobs N] [--device NAME] [--size W H]... [--options "WORD.."]... [--cut N]... [--seeds N]
+usage: tools/dev/place.py [--write] [--jobs N] [--device NAME] [--size W H]... [--options "WORD.."]... [--cut N]... [--seeds N]
                       [--phases P]... [--pipelines] [--path] [--keep FILE] PROGRAM [NAME..]
 
 A NAME is an example, or the path of a program's file. Without names all examples are placed. The line `size` is set to each SIZE; without
@@ -43,7 +43,7 @@ import time
 sys.dont_write_bytecode = True
 import section
 
-TOP = os.path.dirname(os.path.dirname(os.path.abspath(__file__)))
+TOP = os.path.dirname(os.path.dirname(os.path.dirname(os.path.abspath(__file__))))
 EXAMPLES, PIPELINES = (os.path.join(TOP, "examples", folder) for folder in ("programs", "pipelines"))
 MINUTES = 10
 BOTH = ["--age", "1", "--block", "32"]

@@ -1,8 +1,8 @@
-# Sourced by tools/follow.sh, in a process of its own beside the program: shows at a terminal how far a long call is. `child` is the process of the
+# Sourced by tools/dk/follow.sh, in a process of its own beside the program: shows at a terminal how far a long call is. `child` is the process of the
 # program. Nothing is asked of the program: its place in IN and the end of VCD are read from outside.
 
 # shellcheck shell=sh disable=SC1091,SC2154,SC3013
-. "${top:?}/tools/words.sh"
+. "${top:?}/tools/dk/words.sh"
 
 # now: the time in hundredths of a second since the machine began
 now() {
