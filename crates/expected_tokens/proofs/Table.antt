@@ -20,6 +20,7 @@ sampled (class.Symbol s) = refl
 sampled class.EndOfText = refl
 
 among_keywords : (ks : List Keyword) (k : Keyword) → Contains ks k → Contains (map class.Keyword ks ++ others) (class.Keyword k)
+among_keywords [] k (n, low, is) = absurd (omega (arith, low))
 among_keywords (l ∷ ks) k (zero, low, is) = (0, omega arith, ap class.Keyword is)
 among_keywords (l ∷ ks) k (suc n, low, is) =
     let (m, less, found) = among_keywords ks k (n, omega (arith, low), is) in
