@@ -81,11 +81,7 @@ pub fn piece_read(alloc: Global, name: &[u8]) -> Result<Part, OutOfMemory> {
 }
 
 // An operator with its operands in brackets.
-fn function(
-    alloc: Global,
-    keyword: Keyword,
-    operands: &[&[u8]],
-) -> Result<Vec<u8>, OutOfMemory> {
+fn function(alloc: Global, keyword: Keyword, operands: &[&[u8]]) -> Result<Vec<u8>, OutOfMemory> {
     let mut text = Vec::new(alloc);
     text.extend_from_slice(keyword.spelling().as_bytes())?;
     let mut before: &[u8] = b"(";

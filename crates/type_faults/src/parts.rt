@@ -227,9 +227,7 @@ fn take_out(program: &mut Program, place: Place) -> FoundTypes {
 fn is_count(kind: TypeFaultKind) -> bool {
     matches!(
         kind,
-        TypeFaultKind::TooManyInputs
-            | TypeFaultKind::TooManyOutputs
-            | TypeFaultKind::TooManyImages
+        TypeFaultKind::TooManyInputs | TypeFaultKind::TooManyOutputs | TypeFaultKind::TooManyImages
     )
 }
 
