@@ -122,7 +122,7 @@ pub fn expected_tokens(alloc: Global, before: &[Token]) -> Result<Vec<TokenClass
     ensures exact { IfOk result (λ found. (c : TokenClass) → Contains found.items c ↔ CanFollow before.now c) }
 {
     let mut tokens = copied(alloc, before)?;
-    let classes = all_classes(alloc)?;
-    let found = those_of(alloc, &mut tokens, &classes)?;
+    let all = all_classes(alloc)?;
+    let found = those_of(alloc, &mut tokens, &all)?;
     Ok(found)
 }
