@@ -2,7 +2,7 @@
 """The processor time of the merge gate by crate: of its proof, its tests, and the wrong changes that the proofs must refuse.
 
 usage: tools/dev/gate.py watch PID FILE    notes the processes below PID (that of `rt ci`) in FILE every five seconds, until PID ends
-       tools/dev/gate.py table FILE        prints a table of the times of FILE, for docs/BENCH.md
+       tools/dev/gate.py table FILE [ROWS] prints a table of the times of FILE, for docs/BENCH.md: of the ROWS crates of most time, or of all
 
 A process is read each second, so one that ends sooner is not in the table; the last lines say how much of all time the table has.
 It reads /proc, so it needs Linux.
@@ -109,24 +109,30 @@ def times_of(path):
     return found, whole
 
 
-def table(path):
+def row(name, seconds):
+    return f"| {name} | {' | '.join(f'{each:,.0f}' if each else '-' for each in seconds)} | {sum(seconds):,.0f} |"
+
+
+def table(path, most):
     found, whole = times_of(path)
-    crates = sorted({crate for crate, _ in found}, key=lambda crate: (-sum(found.get((crate, kind), 0) for kind in KINDS), crate))
+    rows = {crate: [found.get((crate, kind), 0.0) for kind in KINDS] for crate in {crate for crate, _ in found}}
+    order = sorted(rows, key=lambda crate: (-sum(rows[crate]), crate))
     print(f"| Crate | {' | '.join(KINDS)} | all |\n|---|{'---|' * (len(KINDS) + 1)}")
-    for crate in crates:
-        row = [found.get((crate, kind), 0.0) for kind in KINDS]
-        print(f"| {crate} | {' | '.join(f'{each:,.0f}' if each else '-' for each in row)} | {sum(row):,.0f} |")
-    sums = [sum(seconds for (_, of), seconds in found.items() if of == kind) for kind in KINDS]
-    print(f"| all | {' | '.join(f'{each:,.0f}' for each in sums)} | {sum(sums):,.0f} |")
-    print(f"\nSeconds of processor time of {len(crates)} crates. `rt ci` and all that it ran and that has ended: {whole:,.0f}.")
+    for crate in order[:most]:
+        print(row(crate, rows[crate]))
+    others = order[most:]
+    if others:
+        print(row(f"{len(others)} others", [sum(rows[crate][k] for crate in others) for k in range(len(KINDS))]))
+    print(row("all", [sum(each[k] for each in rows.values()) for k in range(len(KINDS))]))
+    print(f"\nSeconds of processor time of {len(rows)} crates. `rt ci` and all that it ran and that has ended: {whole:,.0f}.")
 
 
 def main(words):
     try:
         if len(words) == 3 and words[0] == "watch" and words[1].isdigit():
             return watch(int(words[1]), words[2])
-        if len(words) == 2 and words[0] == "table":
-            return table(words[1])
+        if len(words) in (2, 3) and words[0] == "table" and "".join(words[2:]).isdigit() == (len(words) == 3):
+            return table(words[1], int(words[2]) if len(words) == 3 else None)
     except OSError as fault:
         return f"gate: {fault}"
     return __doc__
