@@ -5,6 +5,8 @@
 # usage: tests/check.sh [--whole]
 . "$(dirname -- "$0")/lib.sh" || exit 2
 in_folder
+# (stale.sh calls ./dk as another user, who must reach its folder)
+chmod 711 "$work" || exit 2
 unset DK_CHECK_SECONDS
 
 # checkout FOLDER: a checkout whose parts are those of standard input
