@@ -6,7 +6,7 @@
 # Verilator's lint must be clean but for the forms that docs/HARDWARE.md lists for the module of `compile`.
 # A wrapper with one change must be refused by the tests. What the user may do wrong must end with one line, and without a folder.
 # With names it tries only these programs, as they are and with `--block 2`, and no changes. With `--blocks` it passes over the examples as they are.
-# It says how many blocks passed. It takes about ten minutes for all examples with both simulators, five with `--blocks`.
+# It says how many blocks passed. It takes 15 to 25 minutes for all examples with both simulators, five with `--blocks`.
 # usage: tests/axis.sh [--blocks | PROGRAM.dk..]
 top=$(CDPATH='' cd -- "$(dirname -- "$0")/.." && pwd)
 work=$(mktemp -d) || exit 2
