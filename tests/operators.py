@@ -32,7 +32,7 @@ def listed(page):
 def naming():
     """The files that name the operator."""
     folders = [*TOP.glob("crates/*/src"), *TOP.glob("crates/*/specs"), *TOP.glob("crates/*/proofs"), TOP / "tests"]
-    for path in sorted(path for folder in folders for path in folder.rglob("*") if path.is_file() and path != Path(__file__).resolve() and path.suffix != ".edits"):
+    for path in sorted(path for folder in folders for path in folder.rglob("*") if path.is_file() and path != Path(__file__).resolve() and path.suffix not in (".edit", ".edits")):
         pattern = IN_PROOF if path.suffix == ".antt" else IN_CODE
         text = path.read_text(encoding="utf-8", errors="replace")
         if pattern.search(text):
