@@ -1,7 +1,7 @@
 #!/usr/bin/env python3
 """Counts crates: the longest chain of dependencies, the large crates, the functions whose contract states only safety, and how long contracts and
-lists of arguments are. Prints a chain of more than eight crates, each crate of more than 1,500 lines or 110 functions, each function of more than six
-arguments, and a number of functions that docs/PROMISES.md has not, and then ends with status 1. The methods of the trait `BufferForm` are left out:
+lists of arguments are. Prints a chain of more than eight crates, each crate of more than 1,500 lines or 110 functions, each of more than 1,500 lines
+with its clauses (five have more, and may not grow: ALL_LINES), each function of more than six arguments, and a number of functions that docs/PROMISES.md has not, and then ends with status 1. The methods of the trait `BufferForm` are left out:
 their callers give each argument.
 
 usage: tests/sizes.py [--print]
@@ -18,6 +18,8 @@ from pathlib import Path
 TOP = Path(__file__).resolve().parent.parent
 MOST_CHAIN, MOST_LINES, MOST_FUNCTIONS, MOST_ARGUMENTS = 8, 1500, 110, 6
 MANY_CLAUSES, WIDE = 15, 100
+# The crates that have more than MOST_LINES with their clauses: none of them may grow.
+ALL_LINES = {"dk_top": 2405, "datapath": 1721, "circuit": 1679, "batch_sim": 1613, "netlist": 1524}
 FUNCTION = re.compile(r"^\s*(?:pub(?:\([a-z]+\))?\s+)?(?:const\s+)?(?:unsafe\s+)?fn \w+.*")
 TRAIT = re.compile(r"^impl\b.*\bfor\b")
 
@@ -97,6 +99,17 @@ def lines_of(text):
     return sum(1 for line in text.splitlines() if line.strip() and not re.match(r"\s*(//|ghost use|requires|ensures|× |\()", line))
 
 
+def all_lines_of(text):
+    """The lines with those of contracts."""
+    return sum(1 for line in text.splitlines() if line.strip() and not line.lstrip().startswith("//"))
+
+
+def long_crates():
+    """Each crate of more than MOST_LINES lines with its clauses, and those lines."""
+    found = {name: sum(all_lines_of(text) for _, text in files) for name, files in sources(dependencies())}
+    return {name: count for name, count in found.items() if count > MOST_LINES}
+
+
 def sources(below):
     """For each crate but those of tests the paths and the texts of its code."""
     for name in below:
@@ -138,6 +151,7 @@ def main():
     crowded, many, each, wide = contracts()
     if sys.argv[1:] == ["--print"]:
         print(f"chain of {len(chain)}: {', '.join(chain)}\nlarge: {', '.join(large) or 'none'}\n{plain} of {all_functions} functions state only safety")
+        print("with clauses:", ", ".join(f"{name} {count:,}" for name, count in long_crates().items()))
         print(f"{len(crowded)} functions of more than {MOST_ARGUMENTS} arguments", *crowded, sep="\n  ")
         print(f"{len(many)} functions of {MANY_CLAUSES} clauses and more", *many, sep="\n  ")
         print(f"{each:.2f} clauses a function; {wide:.0f} in 100 clauses have a line of more than {WIDE} columns")
@@ -145,6 +159,7 @@ def main():
     wrong = []
     wrong += crowded
     wrong += [f"{name} has more than {MOST_LINES} lines or {MOST_FUNCTIONS} functions" for name in large]
+    wrong += [f"{name} has {count:,} lines with its clauses" for name, count in long_crates().items() if count > ALL_LINES.get(name, MOST_LINES)]
     if len(chain) > MOST_CHAIN:
         wrong.append(f"a chain of {len(chain)} crates: {', '.join(chain)}")
     count = f"{plain:,} of {all_functions:,} functions state only safety"
