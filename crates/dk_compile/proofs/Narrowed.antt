@@ -8,11 +8,12 @@ use Rattle.pointwise_ir.specs.Programs as P
 use Rattle.raster_delay.specs.Systems.{System}
 use Rattle.flow_dual.specs.declared.solution.Solution.{Solution}
 use Rattle.buffer_plan.specs.Plans.{Plan, bits_of}
+use Rattle.dk_compile.specs.Sources.{IsAccepted}
 use Rattle.dk_compile.specs.Limits.{IsAcceptedAt}
 use Rattle.dk_compile.specs.Compiled.{IsPlanned, HasLeastBits}
 use Rattle.dk_compile.specs.Judged.{HasForm}
 use Rattle.dk_compile.specs.Narrowed.{AreNoWider, IsOneNarrower, HasNoMoreBits, IsNarrowed, NarrowsForm}
-use Rattle.dk_compile.proofs.Same.{same_of_forms}
+use Rattle.dk_compile.proofs.Same.{same_of_forms, keeps_itself}
 
 -- of each image by its number
 pub no_wider_of : (old new : List Ty) → ((k : ℕ) (t : Ty) → slice_get old k ≡ Some t → HasNoMoreBits old new k) → AreNoWider old new
@@ -23,56 +24,42 @@ no_wider_of old new each k t at =
     (is.after, is.is, subst (λ (s : Ty). width_of is.after ≤ width_of s) same is.no_more)
 
 -- a planned text has the form that is planned
-pub planned_form : (text : List ℕ) (p : Typing) (ir : Program) (s : System) (x : Solution) (plan : Plan) → IsAcceptedAt text 0 p → IsPlanned text 0 p ir s x plan → HasForm text ir
-planned_form text p ir s x plan at is = record { program = p; accepted = at.accepted; form = is.has.front.form }
+pub planned_form : (text : List ℕ) (p : Typing) (ir : Program) (s : System) (x : Solution) (plan : Plan) → IsAcceptedAt text 0 p → IsPlanned text 0 p ir s x plan → HasForm text p ir
+planned_form text p ir s x plan at is = record { accepted = at.accepted; form = is.has.front.form }
 
 pub planned_bits : (text : List ℕ) (p : Typing) (ir : Program) (s : System) (x : Solution) (plan : Plan) → IsPlanned text 0 p ir s x plan → (bits : ℕ) → bits ≡ bits_of plan → HasLeastBits text bits
 planned_bits text p ir s x plan is bits are = record { program = p; ir = ir; system = s; solution = x; plan = plan; planned = is; bits_are = are }
 
 -- a text whose program has a form that narrows the source's form
-narrowed_by : (source text : List ℕ) (old : Program) → HasForm source old → NarrowsForm old text → IsNarrowed source text
-narrowed_by source text old has narrows =
+narrowed_by : (source text : List ℕ) (p : Typing) (old : Program) → HasForm source p old → NarrowsForm old text → IsNarrowed source text
+narrowed_by source text p old has narrows =
     let a = has.form.types in
     let b = narrows.has.form.types in
     record {
       keeps = record {
-        old = has.program;
-        new = narrows.has.program;
+        old = p;
+        new = narrows.program;
         from = has.accepted.program;
         accepted = narrows.has.accepted;
-        same = same_of_forms has.program narrows.has.program old narrows.new has.form narrows.has.form narrows.narrowing.same;
+        same = same_of_forms p narrows.program old narrows.new has.form narrows.has.form narrows.narrowing.same;
       };
-      no_wider = subst (λ (ts : List Ty). AreNoWider ts (types_of narrows.has.program)) a (subst (λ (us : List Ty). AreNoWider (P.types_of old) us) b narrows.narrowing.no_wider);
-      narrower = inr (subst (λ (ts : List Ty). IsOneNarrower ts (types_of narrows.has.program)) a (subst (λ (us : List Ty). IsOneNarrower (P.types_of old) us) b narrows.narrowing.narrower));
+      no_wider = subst (λ (ts : List Ty). AreNoWider ts (types_of narrows.program)) a (subst (λ (us : List Ty). AreNoWider (P.types_of old) us) b narrows.narrowing.no_wider);
+      narrower = inr (subst (λ (ts : List Ty). IsOneNarrower ts (types_of narrows.program)) a (subst (λ (us : List Ty). IsOneNarrower (P.types_of old) us) b narrows.narrowing.narrower));
     }
 
-pub narrowed_of : (source text shown : List ℕ) (old : Program) → HasForm source old → NarrowsForm old shown → shown ≡ text → IsNarrowed source text
-narrowed_of source text shown old has narrows same = subst (λ (t : List ℕ). IsNarrowed source t) same (narrowed_by source shown old has narrows)
+pub narrowed_of : (source text shown : List ℕ) (p : Typing) (old : Program) → HasForm source p old → NarrowsForm old shown → shown ≡ text → IsNarrowed source text
+narrowed_of source text shown p old has narrows same = subst (λ (t : List ℕ). IsNarrowed source t) same (narrowed_by source shown p old has narrows)
 
 -- a source that is returned
-unchanged : (source : List ℕ) (old : Program) → HasForm source old → IsNarrowed source source
-unchanged source old has = record {
-  keeps = record {
-    old = has.program;
-    new = has.program;
-    from = has.accepted.program;
-    accepted = has.accepted;
-    same = record {
-      size = refl;
-      input_types = refl;
-      input_names = refl;
-      count = refl;
-      names = λ k lt. refl;
-      types = λ k lt. refl;
-      pictures = λ round is k lt x y. refl;
-    };
-  };
+unchanged : (source : List ℕ) (p : Typing) → IsAccepted source p → IsNarrowed source source
+unchanged source p accepted = record {
+  keeps = keeps_itself source p accepted;
   no_wider = λ k t at. (t, at, (let same : width_of t ≤ width_of t = omega arith in same));
   narrower = inl refl;
 }
 
-pub narrowed_itself : (source text : List ℕ) (old : Program) → HasForm source old → text ≡ source → IsNarrowed source text
-narrowed_itself source text old has same = subst (λ (t : List ℕ). IsNarrowed source t) (sym same) (unchanged source old has)
+pub narrowed_itself : (source text : List ℕ) (p : Typing) → IsAccepted source p → text ≡ source → IsNarrowed source text
+narrowed_itself source text p accepted same = subst (λ (t : List ℕ). IsNarrowed source t) (sym same) (unchanged source p accepted)
 
 -- equal texts have the same bits
 pub same_bits : (text shown : List ℕ) (bits : ℕ) → HasLeastBits shown bits → shown ≡ text → HasLeastBits text bits

@@ -8,7 +8,7 @@ use Rattle.std.proofs.lemmas.Option.{slice_get-map}
 use Rattle.dk_base.specs.declared.ty.Ty.{Ty}
 use Rattle.dk_base.specs.Frames.{Size, Picture, picture_at}
 use Rattle.dk_types.specs.declared.typed.TypedInput.{TypedInput}
-use Rattle.dk_types.specs.Typed.{Typing, Definition}
+use Rattle.dk_types.specs.Typed.{Typing, Definition, typing_of}
 use Rattle.dk_types.specs.Reads.{output}
 use Rattle.pointwise_ir.specs.declared.program.Input.{Input}
 use Rattle.pointwise_ir.specs.Programs.{Program, names_of, bodies_of}
@@ -16,13 +16,16 @@ use Rattle.pointwise_ir.specs.Programs as P
 use Rattle.pointwise_ir.specs.Meaning.{IsPicture, pictures}
 use Rattle.pointwise_ir.specs.Meaning as R
 use Rattle.dk_inline.specs.Inlined.{Stays}
+use Rattle.dk_inline.specs.Answers.{IsInlining}
 use Rattle.pointwise_ir.proofs.Pictured.{mapped_entry}
 use Rattle.dk_compile.specs.Fronts.{IsForm}
 use Rattle.same_pictures.specs.Same.{HaveSamePictures}
 use Rattle.body_levels.specs.Levels.{greatest_level}
 use Rattle.body_levels.specs.Deep.{IsShallower}
 use Rattle.dk_compile.specs.Cuts.{IsRound, output_picture, ShowSamePictures, KeepsPictures, IsInlinedText, IsCutOf}
-use Rattle.dk_compile.specs.Judged.{HasForm, ShowsFormOf}
+use Rattle.dk_compile.specs.declared.compiling.PlannedProgram.{PlannedProgram}
+use Rattle.dk_compile.specs.Sources.{IsAccepted}
+use Rattle.dk_compile.specs.Judged.{HasForm, ShowsFormOf, IsDeepSource}
 
 pub long_inputs : (p : Typing) (ir : Program) → IsForm p ir → length ir.inputs ≡ length p.inputs
 long_inputs p ir form = sym (length-map ir.inputs (λ i. i.ty)) ∙ ap length form.inputs ∙ length-map p.inputs (λ i. i.ty)
@@ -98,22 +101,22 @@ same_of_forms old new a b of_old of_new same =
     }
 
 -- a text whose program has a form that shows the pictures of the source's form
-pub keeps_of : (source text : List ℕ) (old : Program) → HasForm source old → ShowsFormOf old text → KeepsPictures source text
-keeps_of source text old has shows = record {
-  old = has.program;
-  new = shows.has.program;
+pub keeps_of : (source text : List ℕ) (p q : Typing) (old : Program) → HasForm source p old → ShowsFormOf old text q → KeepsPictures source text
+keeps_of source text p q old has shows = record {
+  old = p;
+  new = q;
   from = has.accepted.program;
   accepted = shows.has.accepted;
-  same = same_of_forms has.program shows.has.program old shows.new has.form shows.has.form shows.same;
+  same = same_of_forms p q old shows.new has.form shows.has.form shows.same;
 }
 
 -- a text that is accepted keeps its own pictures
-pub keeps_itself : (source : List ℕ) (old : Program) → HasForm source old → KeepsPictures source source
-keeps_itself source old has = record {
-  old = has.program;
-  new = has.program;
-  from = has.accepted.program;
-  accepted = has.accepted;
+pub keeps_itself : (source : List ℕ) (p : Typing) → IsAccepted source p → KeepsPictures source source
+keeps_itself source p accepted = record {
+  old = p;
+  new = p;
+  from = accepted.program;
+  accepted = accepted;
   same = record {
     size = refl;
     input_types = refl;
@@ -126,9 +129,9 @@ keeps_itself source old has = record {
 }
 
 -- a source that is returned
-pub cut_itself : (source text : List ℕ) (old : Program) (most : ℕ) (form : Program) → HasForm source old → text ≡ source → IsInlinedText source form → IsCutOf source most text
-cut_itself source text old most form has same is = record {
-  keeps = subst (λ (t : List ℕ). KeepsPictures source t) (sym same) (keeps_itself source old has);
+pub cut_itself : (source text : List ℕ) (p : Typing) (most : ℕ) (form : Program) → IsAccepted source p → text ≡ source → IsInlinedText source form → IsCutOf source most text
+cut_itself source text p most form accepted same is = record {
+  keeps = subst (λ (t : List ℕ). KeepsPictures source t) (sym same) (keeps_itself source p accepted);
   before = form;
   after = form;
   was = is;
@@ -139,7 +142,7 @@ cut_itself source text old most form has same is = record {
 }
 
 -- a text that is returned in place of a source which has more levels than asked
-pub cut_below : (source text : List ℕ) (most : ℕ) (before after : Program) → KeepsPictures source text → IsInlinedText source before → IsInlinedText text after → most < greatest_level (bodies_of before)
+cut_below : (source text : List ℕ) (most : ℕ) (before after : Program) → KeepsPictures source text → IsInlinedText source before → IsInlinedText text after → most < greatest_level (bodies_of before)
     → greatest_level (bodies_of after) ≤ max most (greatest_level (bodies_of before)) → IsShallower most before after → IsCutOf source most text
 cut_below source text most before after keeps was is deep below fewer = record {
   keeps = keeps;
@@ -151,3 +154,11 @@ cut_below source text most before after keeps was is deep below fewer = record {
   stays = λ within. absurd (let no : ⊥ = omega (arith, deep, within) in no);
   shallower = inr fewer;
 }
+
+-- a text that improves a source
+pub improved_of : (source text : List ℕ) (old : PlannedProgram) (p : Typing) (most : ℕ) (before after : Program) → IsDeepSource source old before most → KeepsPictures source text → IsAccepted text p → IsInlining p after
+    → greatest_level (bodies_of after) ≤ max most (greatest_level (bodies_of before)) → IsShallower most before after → IsCutOf source most text × IsInlinedText text after
+improved_of source text old p most before after from keeps accepted inlining below fewer =
+    let was : IsInlinedText source before = record { program = typing_of old.program; is_text = from.has.accepted.program; inlined = from.inlining } in
+    let is : IsInlinedText text after = record { program = p; is_text = accepted.program; inlined = inlining } in
+    (cut_below source text most before after keeps was is from.deep below fewer, is)

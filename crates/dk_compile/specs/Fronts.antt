@@ -11,8 +11,8 @@ use Rattle.pointwise_ir.specs.Programs as P
 use Rattle.pointwise_ir.specs.Meaning.{pictures, IsRound}
 use Rattle.pointwise_ir.specs.Reads as R
 use Rattle.dk_inline.specs.Inlined.{Stays}
-use Rattle.dk_inline.specs.Answers.{IsWithin, image_names}
-use Rattle.dk_inline.specs.Folded.{IsFolded}
+use Rattle.dk_inline.specs.Answers.{IsWithin, IsInlining, image_names}
+use Rattle.dk_inline.specs.Folded.{IsFolded, IsFolding}
 use Rattle.pointwise_ir.specs.Stencils.{AreStencilsOf}
 use Rattle.dk_compile.specs.Sources.{IsText}
 
@@ -28,11 +28,18 @@ pub record IsForm (p : Typing) (ir : Program) : Type 0 where
   pub kept : (g : ℕ) → R.Kept ir g ↔ IsKept p g
   pub live : (f g : ℕ) (dx dy : ℤ) → IsKept p f → R.IsLive ir f g dx dy ↔ IsLive p f g dx dy
 
--- the text is that of a program within all limits, with this form and these stencils
+-- Its bodies are the program's own: with the inline images substituted that each reads, and then with the constant of its value in place of each part that has no read and no shift.
+pub record HasOwnBodies (p : Typing) (ir : Program) : Type 0 where
+  pub inlined : Program
+  pub inlining : IsInlining p inlined
+  pub folding : IsFolding inlined ir
+
+-- the text is that of a program within all limits, with this form of its own bodies and these stencils
 pub record IsFront (text : List ℕ) (p : Typing) (ir : Program) (s : Stencils) : Type 0 where
   pub program : IsText text p
   pub within : IsWithin p
   pub form : IsForm p ir
   pub folded : IsFolded ir
+  pub bodies : HasOwnBodies p ir
   pub stencils : AreStencilsOf ir s
   pub few : length s.reads ≤ MAX_LIVE_READS

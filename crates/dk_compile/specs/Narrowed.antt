@@ -2,7 +2,7 @@
 use Rattle.std.specs.Prelude.{◌≡◌, ◌⊎◌, ℕ, ◌<◌, ◌≤◌, List, slice_get, Some}
 use Rattle.dk_base.specs.declared.ty.Ty.{Ty}
 use Rattle.dk_base.specs.Types.{width_of}
-use Rattle.dk_types.specs.Typed.{types_of}
+use Rattle.dk_types.specs.Typed.{Typing, types_of}
 use Rattle.pointwise_ir.specs.Programs.{Program}
 use Rattle.pointwise_ir.specs.Programs as P
 use Rattle.same_pictures.specs.Same.{HaveSamePictures}
@@ -47,6 +47,7 @@ pub record IsNarrowing (old new : Program) : Type 0 where
 
 -- the text is accepted, and its program has a form that shows the pictures of this one with fewer bits
 pub record NarrowsForm (old : Program) (text : List ℕ) : Type 0 where
+  pub program : Typing
   pub new : Program
-  pub has : HasForm text new
+  pub has : HasForm text program new
   pub narrowing : IsNarrowing old new

@@ -2,7 +2,7 @@
 
 ghost use Rattle.std.specs.Prelude.{◌≡◌, ◌≤◌, false, None, IfOk, IfErr, IfSome};
 ghost use Rattle.dk_base.specs.declared.TheConstants.{MAX_AGE};
-ghost use Rattle.dk_types.specs.Typed.{Typing};
+ghost use Rattle.dk_types.specs.Typed.{Typing, typing_of};
 ghost use Rattle.flow_dual.specs.Solutions.{IsSolution};
 ghost use Rattle.wiring.specs.BufferBits.{array_bits};
 ghost use Rattle.net_build.specs.Naming.{names_for};
@@ -23,6 +23,7 @@ use array_packing::pack;
 use buffer_plan::{Plan, PlanFault, plan};
 use circuit::{BlockChain, Built, Chain, build_with, finer_ages, frame_drive_law};
 use dk_base::{OutOfMemory, Stencils};
+use dk_types::TypedProgram;
 use flow_dual::{Solution, solve};
 use netlist::Module;
 use pointwise_ir::Program;
@@ -31,9 +32,10 @@ use std::alloc::Global;
 use verilog_print::print;
 use wiring::Net;
 
-/// A program with its plan: its images without inline ones, the system of its live reads, the solution that shows the bits least, and the plan of the least vector.
+/// A program with its plan: its images as they are written, its images without inline ones, the system of its live reads, the solution that shows the bits least, and the plan of the least vector.
 #[derive(Drop)]
 pub struct PlannedProgram {
+    pub program: TypedProgram,
     pub ir: Program,
     pub system: System,
     pub solution: Solution,
@@ -93,16 +95,21 @@ fn solved(alloc: Global, stencils: &Stencils, age: u8) -> Result<LeastPlan, Plan
 /// The program of a text with the plan of its live reads at this age, at most 64 clocks, or the first fault of the text at it.
 pub fn planned(alloc: Global, text: &[u8], age: u8) -> Result<PlannedProgram, SourceError>
     requires age { age ≤ MAX_AGE }
-    ensures planned { IfOk result (λ r. (p : Typing) × IsPlanned text.now age p r.ir r.system r.solution r.plan) }
+    ensures planned { IfOk result (λ r. IsPlanned text.now age (typing_of r.program) r.ir r.system r.solution r.plan) }
     ensures fault { IfErr result (IsErrorBy (IsFaultAt text.now age)) }
 {
-    let Front { ir, stencils } = front(alloc, text)?;
+    let Front {
+        program,
+        ir,
+        stencils,
+    } = front(alloc, text)?;
     let LeastPlan {
         system,
         solution,
         plan,
     } = solved(alloc, &stencils, age)?;
     Ok(PlannedProgram {
+        program,
         ir,
         system,
         solution,
@@ -208,6 +215,7 @@ pub fn compile_with(alloc: Global, text: &[u8], options: Options) -> Result<Comp
     ensures fault { IfErr result (IsErrorBy (IsFaultAt text.now options.age)) }
 {
     let PlannedProgram {
+        program: _,
         ir,
         system,
         solution,

@@ -53,13 +53,16 @@ pub fn one_at_age_law()
     buffer_plan::one_limit_law();
 }
 
-/// The theorem of the compiler: a text that is compiled from a program denotes one module. From any contents this module shows the program's pictures, and its arrays have the fewest bits of all causal schedules of the program's images.
+/// The theorem of the compiler: a text that is compiled from a program denotes one module. This module has the program's ports. From any contents it shows the program's pictures, and it stands still while `en` is 0. Its arrays have the fewest bits of all causal schedules of the program's images; without `block` they are all that is stored of what came in.
 pub fn correct_law()
     ensures { (source : List ℕ) (age : ℕ) (enable : Bool) (block : Option ℕ) (p : Typing) (ir : Program) (system : System) (solution : Solution) (plan : Plan)
         (m : NamedNetlist) (nets reads : List Net) (verilog : List ℕ) → IsCompiled source age enable block p ir system solution plan m nets reads verilog
-        → IsCorrect source age verilog }
+        → IsCorrect source age enable block verilog }
 {
     one_at_age_law();
+    wiring::one_valuation_law();
+    wiring::one_next_law();
+    netlist::one_run_law();
 }
 
 /// A law: an output's picture of a drive is its pixels in raster order, counted on through the rounds, as many as there are clocks after its latency; and pixels that are counted on through pictures are these pictures' rasters, one after another.

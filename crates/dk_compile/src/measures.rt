@@ -5,15 +5,13 @@ ghost use Rattle.pointwise_ir.specs.Programs.{bodies_of};
 ghost use Rattle.body_levels.specs.Levels.{greatest_level as greatest_of};
 ghost use Rattle.pointwise_ir.specs.declared.program.Definition.{Definition};
 ghost use Rattle.body_levels.specs.Deep.{is_deep as is_deep_body};
-ghost use Rattle.dk_compile.specs.Cuts.{IsInlinedText, deep_names};
+ghost use Rattle.dk_compile.specs.Cuts.{deep_names};
 
-use crate::typed;
 use body_cuts::{Reason, UncutBody};
 use body_levels::{greatest_level, has_deep_move, is_deep};
 use dk_base::{OutOfMemory, Text};
-use dk_inline::inline;
 use pointwise_ir::Program;
-use std::alloc::{AllocError, Global};
+use std::alloc::Global;
 
 /// What a text has whose bodies are cut: its definitions, the most levels of operators of a body, and the definitions whose bodies have more levels than was asked.
 #[derive(Drop)]
@@ -28,19 +26,6 @@ pub struct Measures {
 pub struct DeepBody {
     pub name: Text,
     pub reason: Reason,
-}
-
-// The program of the text with its inline images substituted. A text that has none counts as out of memory.
-pub(crate) fn inlined_text(alloc: Global, text: &[u8]) -> Result<Program, OutOfMemory>
-    ensures { IfOk result (IsInlinedText text.now) }
-{
-    let Ok(program) = typed(alloc, text) else {
-        return Err(AllocError);
-    };
-    match inline(alloc, program) {
-        Ok(form) => Ok(form),
-        Err(_) => Err(AllocError),
-    }
 }
 
 // Why the body of this image has more levels than was asked.

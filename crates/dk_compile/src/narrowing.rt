@@ -1,7 +1,7 @@
 // A program whose images have the bits that their values need.
 
 ghost use Rattle.std.specs.Prelude.{◌≡◌, ◌<◌, ◌≤◌, ℕ, IsTrue, IfOk, IfErr, OnOk, IfSome, length};
-ghost use Rattle.dk_types.specs.Typed.{Typing};
+ghost use Rattle.dk_types.specs.Typed.{Typing, typing_of};
 ghost use Rattle.pointwise_ir.specs.Programs.{types_of};
 ghost use Rattle.buffer_plan.specs.Plans.{bits_of};
 ghost use Rattle.dk_compile.specs.Sources.{IsErrorBy};
@@ -10,7 +10,7 @@ ghost use Rattle.dk_compile.specs.Judged.{HasForm};
 ghost use Rattle.dk_compile.specs.Compiled.{HasLeastBits};
 ghost use Rattle.dk_compile.specs.Narrowed.{AreNoWider, HasNoMoreBits, HasFewerBits, IsOneNarrower, IsNarrowed, IsNarrowing, NarrowsForm};
 
-use crate::{PlannedProgram, SourceError, one_at_age_law, planned, typed};
+use crate::{PlannedProgram, SourceError, one_at_age_law, planned};
 use dk_base::OutOfMemory;
 use narrow_types::narrowed_text;
 use pointwise_ir::Program;
@@ -103,7 +103,7 @@ fn narrows(alloc: Global, old: &Program, new: &Program) -> Result<bool, OutOfMem
 
 // The program of a text with its plan at age 0, or the first fault of the text.
 fn formed(alloc: Global, text: &[u8]) -> Result<PlannedProgram, SourceError>
-    ensures form { IfOk result (λ r. HasForm text.now r.ir) }
+    ensures form { IfOk result (λ r. HasForm text.now (typing_of r.program) r.ir) }
     ensures least { IfOk result (λ r. (bits : ℕ) → bits ≡ bits_of r.plan → HasLeastBits text.now bits) }
     ensures good { OnOk result ((p : Typing) × IsAcceptedAt text.now 0 p) }
     ensures fault { IfErr result (IsErrorBy (IsFaultAt text.now 0)) }
@@ -136,21 +136,18 @@ fn narrower_bits(alloc: Global, old: &Program, text: &[u8]) -> Result<Option<u64
 fn checked(
     alloc: Global,
     source: &[u8],
-    old: &Program,
+    old: &PlannedProgram,
     before: u64,
 ) -> Result<NarrowText, OutOfMemory>
-    requires form { HasForm source.now old.now }
+    requires form { HasForm source.now (typing_of old.now.program) old.now.ir }
     requires least { HasLeastBits source.now before }
     ensures narrowed { IfOk result (λ n. IsNarrowed source.now n.text.items) }
     ensures bits { IfOk result (λ n. HasLeastBits n.text.items n.bits) }
     ensures before { IfOk result (λ n. n.bits_before ≡ before) }
     ensures fewer { IfOk result (λ n. n.bits ≤ before) }
 {
-    let Ok(program) = typed(alloc, source) else {
-        return Err(AllocError);
-    };
-    let text = narrowed_text(alloc, source, &program)?;
-    if let Some(bits) = narrower_bits(alloc, old, &text)? {
+    let text = narrowed_text(alloc, source, &old.program)?;
+    if let Some(bits) = narrower_bits(alloc, &old.ir, &text)? {
         if bits <= before {
             return Ok(NarrowText {
                 text,
@@ -178,6 +175,6 @@ pub fn narrow(alloc: Global, source: &[u8]) -> Result<NarrowText, SourceError>
 {
     let old = formed(alloc, source)?;
     let before = old.plan.bits();
-    let chosen = checked(alloc, source, &old.ir, before)?;
+    let chosen = checked(alloc, source, &old, before)?;
     Ok(chosen)
 }

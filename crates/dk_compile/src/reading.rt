@@ -1,24 +1,23 @@
 // From a text to its program.
 
-ghost use Rattle.std.specs.Prelude.{◌≤◌, IfOk, IfErr, length};
+ghost use Rattle.std.specs.Prelude.{◌≤◌, ℕ, List, IfOk, IfErr, length};
 ghost use Rattle.dk_parser.specs.Programs.{source_of, AllConvertToTypes};
-ghost use Rattle.dk_types.specs.Typed.{Typing, typing_of};
-ghost use Rattle.pointwise_ir.specs.Passes.{KeepsMeaning};
+ghost use Rattle.dk_types.specs.Typed.{typing_of};
 ghost use Rattle.dk_inline.specs.Folded.{IsFolded};
-ghost use Rattle.dk_inline.specs.Answers.{IsWithin};
+ghost use Rattle.dk_inline.specs.Answers.{IsWithin, IsInlining};
 ghost use Rattle.dk_compile.specs.Sources.{HasTree, IsText, IsAccepted, IsSourceFault, IsErrorBy};
-ghost use Rattle.dk_compile.specs.Fronts.{IsForm, IsFront};
+ghost use Rattle.dk_compile.specs.Fronts.{IsForm, HasOwnBodies, IsFront};
 
 use crate::accepted::Front;
 use crate::fault::SourceError;
 use dk_base::{MAX_SOURCE_BYTES, OutOfMemory};
-use dk_inline::{Fold, inline};
+use dk_inline::{Fold, InlineFault, inline};
 use dk_lexer::lex;
 use dk_parser::{Program as SyntaxTree, parse};
 use dk_types::{TypedProgram, check};
-use pointwise_ir::{Program, Rewrite, run_passes};
+use pointwise_ir::{Program, Rewrite};
 use source_fault::SourceFault;
-use std::alloc::Global;
+use std::alloc::{AllocError, Global};
 use stencil_sets::live_reads;
 
 // The tree of a text.
@@ -47,37 +46,52 @@ pub fn typed(alloc: Global, text: &[u8]) -> Result<TypedProgram, SourceError>
     Ok(typed)
 }
 
-// The program with folded constants.
-fn folded(alloc: Global, ir: Program) -> Result<Program, OutOfMemory>
-    ensures meaning { IfOk result (λ new. KeepsMeaning ir new) }
-    ensures folded { IfOk result (λ new. IsFolded new) }
-{
-    let mut passes: Vec<Box<dyn Rewrite>> = Vec::new(alloc);
-    passes.push(Box::new(alloc, Fold)?)?;
-    let done = run_passes(alloc, ir, &passes)?;
-    Ok(done)
+// A program, and its form.
+#[derive(Drop)]
+struct Formed {
+    program: TypedProgram,
+    ir: Program,
 }
 
-// The form of a text's program, which is within the limits on nodes and depth.
-fn form(alloc: Global, text: &[u8]) -> Result<Program, SourceError>
-    ensures form { IfOk result (λ ir. (p : Typing) × IsText text.now p × IsWithin p × IsForm p ir × IsFolded ir) }
+// The program of a text and its form, if it is within the limits on nodes and depth.
+fn form(alloc: Global, text: &[u8]) -> Result<Formed, SourceError>
+    ensures text { IfOk result (λ f. IsText text.now (typing_of f.program)) }
+    ensures within { IfOk result (λ f. IsWithin (typing_of f.program)) }
+    ensures form { IfOk result (λ f. IsForm (typing_of f.program) f.ir) }
+    ensures folded { IfOk result (λ f. IsFolded f.ir) }
+    ensures bodies { IfOk result (λ f. HasOwnBodies (typing_of f.program) f.ir) }
     ensures fault { IfErr result (IsErrorBy (IsSourceFault text.now)) }
 {
     let program = typed(alloc, text)?;
-    let inlined = inline(alloc, program)?;
-    match folded(alloc, inlined) {
-        Ok(ir) => Ok(ir),
-        Err(_) => Err(SourceError::OutOfMemory),
-    }
+    let inlined = inline(alloc, &program)?;
+    let ir = Fold.apply(alloc, inlined)?;
+    Ok(Formed { program, ir })
 }
 
 /// The program of a text, or the first fault of the text.
 pub fn front(alloc: Global, text: &[u8]) -> Result<Front, SourceError>
-    ensures accepted { IfOk result (λ front. (p : Typing) × IsAccepted text.now p × IsFront text.now p front.ir front.stencils) }
+    ensures accepted { IfOk result (λ front. IsAccepted text.now (typing_of front.program)) }
+    ensures front { IfOk result (λ front. IsFront text.now (typing_of front.program) front.ir front.stencils) }
     ensures fault { IfErr result (IsErrorBy (IsSourceFault text.now)) }
 {
-    let ir = form(alloc, text)?;
+    let Formed { program, ir } = form(alloc, text)?;
     let stencils = live_reads(alloc, &ir)?;
     stencils.law();
-    Ok(Front { ir, stencils })
+    Ok(Front {
+        program,
+        ir,
+        stencils,
+    })
+}
+
+/// The program with its inline images substituted, which is within the limits.
+pub(crate) fn inlined(alloc: Global, program: &TypedProgram) -> Result<Program, OutOfMemory>
+    requires accepted { (text : List ℕ) × IsAccepted text (typing_of program.now) }
+    ensures { IfOk result (λ form. IsInlining (typing_of program.now) form) }
+{
+    match inline(alloc, program) {
+        Ok(form) => Ok(form),
+        Err(InlineFault::OutOfMemory) => Err(AllocError),
+        Err(InlineFault::Nodes { .. }) | Err(InlineFault::InlineDepth { .. }) => unreachable!(),
+    }
 }

@@ -7,7 +7,7 @@ ghost use Rattle.dk_compile.specs.Limits.{IsAcceptedAt, IsFaultAt};
 ghost use Rattle.dk_compile.specs.Compiled.{HasLeastBits};
 ghost use Rattle.dk_compile.specs.Widened.{IsWidened, HasWideMeasures, IsAble, IsWidenFault, IsWidenErrorBy};
 
-use crate::{SourceError, one_at_age_law, one_source_law, planned, typed};
+use crate::{SourceError, one_at_age_law, planned};
 use body_cuts::head_of;
 use body_phases::phases_text;
 use dk_base::{MAX_INPUTS, MAX_OUTPUTS, OutOfMemory};
@@ -93,15 +93,13 @@ fn sized(alloc: Global, text: &[u8]) -> Result<SizedProgram, SourceError>
     ensures bits { IfOk result (λ s. HasLeastBits text.now s.bits) }
     ensures fault { IfErr result (IsErrorBy (IsFaultAt text.now 0)) }
 {
-    one_source_law();
     one_at_age_law();
     let known = planned(alloc, text, 0)?;
     let bits = known.plan.bits();
-    // A text with a plan has a typed program, so this fails only if out of memory.
-    let Ok(program) = typed(alloc, text) else {
-        return Err(SourceError::OutOfMemory);
-    };
-    Ok(SizedProgram { program, bits })
+    Ok(SizedProgram {
+        program: known.program,
+        bits,
+    })
 }
 
 // Whether a program has as many columns as its phases need, and few enough inputs and outputs.

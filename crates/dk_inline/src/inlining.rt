@@ -91,16 +91,16 @@ fn inlined(alloc: Global, program: &TypedProgram) -> Result<Program, InlineFault
 ///
 /// The images keep their numbers, names and types. An output that is marked inline stays an image like any other, and reads of it are substituted all the same. Any other inline image is left with the body 0, since nobody reads it any more.
 #[tactic(auto, using(crate::proofs::Whole::keeps_program))]
-pub fn inline(alloc: Global, program: TypedProgram) -> Result<Program, InlineFault>
-    requires some_inputs { 1 ≤ length program.inputs }
-    requires some_outputs { 1 ≤ length program.outputs }
-    ensures within { IfOk result (λ ir. IsWithin (typing_of program)) }
-    ensures inlined { IfOk result (λ ir. IsInlining (typing_of program) ir) }
-    ensures keeps { IfOk result (λ ir. KeepsProgram (typing_of program) ir) }
-    ensures fault { IfErr result (IsFault (typing_of program)) }
+pub fn inline(alloc: Global, program: &TypedProgram) -> Result<Program, InlineFault>
+    requires some_inputs { 1 ≤ length program.now.inputs }
+    requires some_outputs { 1 ≤ length program.now.outputs }
+    ensures within { IfOk result (λ ir. IsWithin (typing_of program.now)) }
+    ensures inlined { IfOk result (λ ir. IsInlining (typing_of program.now) ir) }
+    ensures keeps { IfOk result (λ ir. KeepsProgram (typing_of program.now) ir) }
+    ensures fault { IfErr result (IsFault (typing_of program.now)) }
 {
     program.law();
-    let ir = inlined(alloc, &program)?;
+    let ir = inlined(alloc, program)?;
     ir.law();
     Ok(ir)
 }

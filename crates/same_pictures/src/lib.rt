@@ -9,4 +9,4 @@ mod pairing;
 mod products;
 mod unneeded;
 
-pub use pairing::{first_other_image, have_same_pictures};
+pub use pairing::{Comparison, compared, have_same_pictures};

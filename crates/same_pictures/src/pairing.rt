@@ -3,6 +3,7 @@
 ghost use Rattle.std.specs.Prelude.{◌≡◌, ◌<◌, ℕ, length, Some, slice_get, slice_index, IsTrue, IfOk, IfSome};
 ghost use Rattle.pointwise_ir.specs.Programs.{names_of, types_of};
 ghost use Rattle.same_pictures.specs.Same.{HaveSamePicture, HaveSamePictures};
+ghost use Rattle.same_pictures.specs.declared.pairing.Comparison.TheVariants.{Same};
 ghost use Rattle.same_pictures.specs.Matching.{CanCompare, ArePairs, HaveSameInputs};
 
 use crate::matching::{Compared, body_of, has_same_value, is_pair};
@@ -201,45 +202,51 @@ fn are_pairs(pairs: &[Option<u32>], old: &[u32], new: &[u32]) -> bool
     true
 }
 
-/// Whether the new program has the old one's size, inputs and outputs, and shows the same picture of each output on all frames.
-///
-/// It says yes only if each output's body is that of the old program, node by node, where a read of a definition at the point itself counts as the definition's body. So definitions may name parts of a body. Fails only if out of memory.
-pub fn have_same_pictures(alloc: Global, old: &Program, new: &Program) -> Result<bool, OutOfMemory>
-    ensures { IfOk result (λ same. IsTrue same → HaveSamePictures old.now new.now) }
-{
-    if old.size() != new.size() {
-        return Ok(false);
-    }
-    if !are_same_inputs(old.inputs(), new.inputs()) {
-        return Ok(false);
-    }
-    if !are_same_outputs(old, new) {
-        return Ok(false);
-    }
-    let pairs = all_pairs(alloc, old, new)?;
-    Ok(are_pairs(&pairs, old.outputs(), new.outputs()))
-}
-
 // The first image without a counterpart.
 fn first_unpaired(pairs: &[Option<u32>]) -> Option<u32> {
     let place = pairs.iter().position(|pair| pair.is_none())?;
     u32::try_from(place).ok()
 }
 
-/// The first image of the old program, by its number, for which the new one has no image that `have_same_pictures` would take for the same. None if there is none, or the inputs are not the same. Fails only if out of memory.
+/// What a comparison of two programs finds.
+#[derive(Clone, Copy)]
+pub enum Comparison {
+    /// The new program has the old one's size, inputs and outputs, and shows the same picture of each output on all frames.
+    Same,
+    /// This image of the old program, by its number, is the first for which no image of the new one is found that shows its picture.
+    OtherImage(u32),
+    /// The size, the inputs or the outputs are not the same.
+    OtherFrame,
+}
+
+/// Compares a program with an old one.
 ///
-/// No contract states which image it is. It is for a caller that changes the new program and tries again.
-pub fn first_other_image(
-    alloc: Global,
-    old: &Program,
-    new: &Program,
-) -> Result<Option<u32>, OutOfMemory> {
+/// They are the same only if each output's body is that of the old program, node by node, where a read of a definition at the point itself counts as the definition's body. So definitions may name parts of a body. No contract states which image is the first other one: it is for a caller that changes the new program and tries again. Fails only if out of memory.
+pub fn compared(alloc: Global, old: &Program, new: &Program) -> Result<Comparison, OutOfMemory>
+    ensures { IfOk result (λ found. found ≡ Same → HaveSamePictures old.now new.now) }
+{
     if old.size() != new.size() {
-        return Ok(None);
+        return Ok(Comparison::OtherFrame);
     }
     if !are_same_inputs(old.inputs(), new.inputs()) {
-        return Ok(None);
+        return Ok(Comparison::OtherFrame);
     }
     let pairs = all_pairs(alloc, old, new)?;
-    Ok(first_unpaired(&pairs))
+    if are_same_outputs(old, new) && are_pairs(&pairs, old.outputs(), new.outputs()) {
+        return Ok(Comparison::Same);
+    }
+    match first_unpaired(&pairs) {
+        Some(image) => Ok(Comparison::OtherImage(image)),
+        None => Ok(Comparison::OtherFrame),
+    }
+}
+
+/// Whether `compared` finds that the new program shows the pictures of the old one.
+pub fn have_same_pictures(alloc: Global, old: &Program, new: &Program) -> Result<bool, OutOfMemory>
+    ensures { IfOk result (λ same. IsTrue same → HaveSamePictures old.now new.now) }
+{
+    match compared(alloc, old, new)? {
+        Comparison::Same => Ok(true),
+        Comparison::OtherImage(_) | Comparison::OtherFrame => Ok(false),
+    }
 }

@@ -1,5 +1,0 @@
-use Rattle.dk_compile.proofs.cutting.checked.Given as goal
-
--- nothing but what holds before it
-abbrev pub invariant-loop : goal.invariant-loop
-invariant-loop l = Unit {0}
