@@ -1,5 +1,5 @@
 -- The theorem of the compiler, from what is proved of a compiled text.
-use Rattle.std.proofs.Common.{mul-pos, ◌≡◌, ◌⊎◌, inl, inr, tt, arith, ℕ, suc, ◌-◌, ◌*◌, ◌/◌, ◌^◌, ◌<◌, ◌≤◌, Bool, true, false, List, [], ◌∷◌, ◌++◌, length, map, Option, None, refl, sym, ap, subst, ◌∙◌}
+use Rattle.std.proofs.Common.{mul-pos, ◌≡◌, ◌⊎◌, inl, inr, arith, ℕ, suc, ◌-◌, ◌*◌, ◌/◌, ◌^◌, ◌<◌, ◌≤◌, Bool, true, false, List, [], ◌∷◌, ◌++◌, length, map, Option, None, refl, sym, ap, subst, ◌∙◌}
 use Rattle.std.specs.Prelude.{ℤ, pos, slice_index, slice_index_or, All, IsTrue, not, ◌&&◌, nat_le, if◌then◌else◌}
 use Rattle.std.specs.List.{AllZip}
 use Rattle.std.proofs.Math.Nat.{mul-div_cancel}
@@ -48,7 +48,10 @@ zip_length R (x ∷ xs) (y ∷ ys) h = ap suc (zip_length R xs ys h.1)
 
 two_each : (widths : List ℕ) → length (with_valids widths) ≡ length widths * 2
 two_each [] = refl
-two_each (w ∷ widths) = ap (λ n. suc (suc n)) (two_each widths)
+two_each (w ∷ widths) =
+    let rest = two_each widths in
+    let both : suc (suc (length (with_valids widths))) ≡ suc (length widths) * 2 = omega (arith, rest) in
+    both
 
 -- from contents that fit a run goes on or stops
 abbrev pub RunsOrStops : Type 0
@@ -60,21 +63,21 @@ have_places m from fits = record { regs = zip_length (λ w v. v < 2 ^ w) m.regs 
 
 -- a run that does not stop goes on
 goes : {A B : Type 0} → A ⊎ B → (B → ⊥) → A
-goes (inl a) no = a
-goes (inr b) no = absurd (no b)
+goes (inl a) never = a
+goes (inr b) never = absurd (never b)
 
 -- a held clock is no reset, and no output is valid in it
 held_valid : (reset held late : Bool) → IsTrue held → bit ((not reset && not held) && late) ≡ 0
-held_valid true true late yes = refl
-held_valid false true late yes = refl
-held_valid reset false late yes = absurd yes
+held_valid true true late is = refl
+held_valid false true late is = refl
+held_valid reset false late is = absurd is
 
 after_reset : (c : Clock) (before : List Clock) → IsTrue (was_reset before) → IsTrue (was_reset (c ∷ before))
 after_reset c before was = either c.reset (was_reset before) was
   where
     either : (reset was : Bool) → IsTrue was → IsTrue (if reset then true else was)
-    either true was yes = tt
-    either false was yes = yes
+    either true was is = tt
+    either false was is = is
 
 ready : (copies : List ℕ) (before : List Clock) → IsTrue (was_reset before) → IsReady copies before
 ready [] before was = tt
@@ -128,8 +131,8 @@ module _ (p : Typing) (ir : Program) (form : IsForm p ir) where
   widths_after enable ws vs same = ap (λ (xs : List ℕ). 1 ∷ (if enable then 1 ∷ xs else xs)) same
 
   din_count : (enable : Bool) (ws : List ℕ) → length (1 ∷ (if enable then 1 ∷ ws else ws)) - (if enable then 2 else 1) ≡ length ws
-  din_count true ws = refl
-  din_count false ws = refl
+  din_count true ws = let e : suc (suc (length ws)) - 2 ≡ length ws = omega arith in e
+  din_count false ws = let e : suc (length ws) - 1 ≡ length ws = omega arith in e
 
   outputs_are : map (λ g. width_of (type_at ir g)) ir.outputs ≡ map (λ g. width_of (type_of_image p g)) p.outputs
   outputs_are =

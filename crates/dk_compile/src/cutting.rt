@@ -87,17 +87,17 @@ fn improves(old: &Program, new: &Program, most: u32) -> bool
 }
 
 // The cut text, which has this program, if it improves the source.
-#[tactic(auto, using(crate::proofs::Same::cut_below))]
+#[tactic(auto, using(crate::proofs::Same::improved_of))]
 fn improved(
     alloc: Global,
-    source: Source<'_>,
+    source: &Source<'_>,
     cut: CutProgram,
     program: &TypedProgram,
 ) -> Result<Outcome, OutOfMemory>
-    requires source { IsDeepSource source.text.now source.old.now source.form.now source.levels }
-    requires keeps { KeepsPictures source.text.now cut.text.items }
+    requires source { IsDeepSource source.now.text.now source.now.old.now source.now.form.now source.now.levels }
+    requires keeps { KeepsPictures source.now.text.now cut.text.items }
     requires program { IsAccepted cut.text.items (typing_of program.now) }
-    ensures { IfOk result (IsOutcome source.text.now source.levels) }
+    ensures { IfOk result (IsOutcome source.now.text.now source.now.levels) }
 {
     let after = inlined(alloc, program)?;
     let most = u32::from(source.levels);
@@ -112,9 +112,9 @@ fn improved(
 }
 
 // What the source is cut to, by one proposal after another. A body that the check refuses stays whole.
-fn proposed(alloc: Global, source: Source<'_>) -> Result<Outcome, OutOfMemory>
-    requires source { IsDeepSource source.text.now source.old.now source.form.now source.levels }
-    ensures { IfOk result (IsOutcome source.text.now source.levels) }
+fn proposed(alloc: Global, source: &Source<'_>) -> Result<Outcome, OutOfMemory>
+    requires source { IsDeepSource source.now.text.now source.now.old.now source.now.form.now source.now.levels }
+    ensures { IfOk result (IsOutcome source.now.text.now source.now.levels) }
 {
     let mut whole = Vec::new(alloc);
     let mut uncut = Vec::new(alloc);
@@ -163,7 +163,7 @@ fn cut_to(
             form: &form,
             levels,
         };
-        match proposed(alloc, from)? {
+        match proposed(alloc, &from)? {
             Outcome::Cut(chosen) => return Ok(chosen),
             Outcome::Whole(bodies) => uncut = bodies,
         }

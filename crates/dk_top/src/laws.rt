@@ -23,11 +23,12 @@ ghost use Rattle.stimulus.specs.Inputs.{samples_of};
 ghost use Rattle.stimulus.specs.Showing.{IsNoted as AreNotes};
 ghost use Rattle.dk_top.specs.Simulation.{IsSimulated};
 
-/// The theorem of the compiler: whatever text `compile` leaves in OUT after Done (`IsCompiledText`), it denotes one module. From any contents this module shows
-/// the program's pictures, and its arrays have the fewest bits of all causal schedules of the program's images.
+/// The theorem of the compiler: if the call ends with Done, then whatever text `compile` leaves in OUT (`IsCompiledText`), it denotes one module. This module has
+/// the program's ports. From any contents it shows the program's pictures, and it stands still while `en` is 0. Its arrays have the fewest bits of all causal
+/// schedules of the program's images; without `block` they are all that is stored of what came in.
 pub fn correct_law()
     ensures { (source : List ℕ) (age : ℕ) (enable : Bool) (block : Option ℕ) (text : List ℕ)
-        → IsCompiledText source age enable block text → IsCorrect source age text }
+        → IsCompiledText source age enable block text → IsCorrect source age enable block text }
 {
     dk_compile::correct_law();
 }

@@ -5,5 +5,5 @@ use Rattle.dk_top.proofs.laws.correct_law.Goals as goal
 pub returns : goal.returns
 returns c source age enable block text is =
     let x = is.compiled in
-    subst (λ (t : List ℕ). IsCorrect source age t) (sym is.is)
+    subst (λ (t : List ℕ). IsCorrect source age enable block t) (sym is.is)
     (c.correct_law.ensures source age enable block is.from.program x.ir x.system x.solution x.plan x.«module» x.nets.items x.reads.items x.text.items is.from.is)

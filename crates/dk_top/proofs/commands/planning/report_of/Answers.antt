@@ -1,3 +1,4 @@
+use Rattle.dk_types.specs.Typed.{typing_of}
 use Rattle.dk_top.proofs.FrontLemmas.{front_images, front_names}
 use Rattle.dk_top.proofs.FrontPlans.{plan_of}
 use Rattle.dk_top.proofs.commands.planning.report_of.Goals as goal
@@ -5,7 +6,8 @@ use Rattle.dk_top.proofs.commands.planning.report_of.Goals as goal
 pub plan_report-requires : goal.plan_report-requires
 plan_report-requires c =
     let program = c.in-Ok.program in
-    let (p, planned) = c.in-Ok.ensures.planned in
+    let p = typing_of c.in-Ok.program.program in
+    let planned = c.in-Ok.ensures.planned in
     let front = planned.has.front in
     record {
       solution = planned.solved;
@@ -16,13 +18,15 @@ plan_report-requires c =
 
 pub returns-in-Ok-plan_report-clause-plan : goal.returns-in-Ok-plan_report-clause-plan
 returns-in-Ok-plan_report-clause-plan c =
-    let (p, planned) = c.in-Ok.ensures.planned in
+    let p = typing_of c.in-Ok.program.program in
+    let planned = c.in-Ok.ensures.planned in
     plan_of c.args.text.now c.args.age p c.in-Ok.program.ir c.in-Ok.program.system planned.has c.in-Ok-plan_report.report.items c.in-Ok-plan_report.ensures.report
 
 pub returns-in-Ok-plan_report-clause-good : goal.returns-in-Ok-plan_report-clause-good
 returns-in-Ok-plan_report-clause-good c =
     let program = c.in-Ok.program in
-    let (p, planned) = c.in-Ok.ensures.planned in
+    let p = typing_of c.in-Ok.program.program in
+    let planned = c.in-Ok.ensures.planned in
     (p, c.one_at_age_law.ensures.accepted c.args.text.now c.args.age p program.ir program.system program.solution program.plan planned)
 
 pub returns-in-Err-clause-fault : goal.returns-in-Err-clause-fault
