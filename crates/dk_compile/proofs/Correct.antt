@@ -70,13 +70,13 @@ goes (inr b) never = absurd (never b)
 held_valid : (reset held late : Bool) → IsTrue held → bit ((not reset && not held) && late) ≡ 0
 held_valid true true late is = refl
 held_valid false true late is = refl
-held_valid reset false late is = absurd is
+held_valid reset false late is = absurd (let never : ⊥ = cc in never)
 
 after_reset : (c : Clock) (before : List Clock) → IsTrue (was_reset before) → IsTrue (was_reset (c ∷ before))
 after_reset c before was = either c.reset (was_reset before) was
   where
     either : (reset was : Bool) → IsTrue was → IsTrue (if reset then true else was)
-    either true was is = tt
+    either true was is = refl
     either false was is = is
 
 ready : (copies : List ℕ) (before : List Clock) → IsTrue (was_reset before) → IsReady copies before
