@@ -1,5 +1,5 @@
 -- The theorem of the compiler on one page: a text that it writes of a program denotes one module, which has the program's ports and shows its pictures, and whose arrays have the fewest bits of all causal schedules.
-use Rattle.std.specs.Prelude.{◌≡◌, ℕ, ◌+◌, ◌*◌, ◌<◌, ◌≤◌, ◌==◌, nat_lt, pos, Bool, true, if◌then◌else◌, List, [], ◌∷◌, ◌++◌, length, map, slice_get, slice_index, slice_index_or, Option, None, Some, All, IsTrue}
+use Rattle.std.specs.Prelude.{◌≡◌, ℕ, ◌+◌, ◌*◌, ◌<◌, ◌≤◌, ◌==◌, nat_lt, pos, Bool, if◌then◌else◌, List, [], ◌∷◌, ◌++◌, length, map, slice_get, slice_index, slice_index_or, Option, None, Some, All, IsTrue}
 use Rattle.dk_base.specs.declared.ty.Ty.{Ty}
 use Rattle.dk_base.specs.declared.ty.Ty.TheVariants.{Unsigned}
 use Rattle.dk_base.specs.Types.{width_of}
