@@ -143,7 +143,7 @@ fn proposed(alloc: Global, source: &Source<'_>) -> Result<Outcome, OutOfMemory>
 }
 
 // What the source is cut to: the cut text where that has fewer levels, else the source.
-#[tactic(auto, using(crate::proofs::Same::cut_itself))]
+
 fn cut_to(
     alloc: Global,
     source: &[u8],
