@@ -1,8 +1,9 @@
 #!/usr/bin/env python3
 """Checks a crate before the crates below it are proved: `rattle check` of it, where each lower crate without a library is a copy in which the proof of
-each function is a hole. The prover takes such a function by its contract, so that the upper crate's own answers and searches are all checked.
+each function is a hole and its body `unreachable!()`. The prover takes such a function by its contract, so that the upper crate's own answers and
+searches are all checked.
 
-A function of the upper crate is done if each hole that it stands on is one of a copy. Trait methods of an impl and cycles of calls keep their proofs.
+A function of the upper crate is done if each hole that it stands on is one of a copy. Trait methods of an impl and constant functions keep their bodies.
 
 usage: tools/dev/holes.py CRATE [FLAG..]
 
@@ -51,6 +52,33 @@ def paths_in(text, module):
         before = line
 
 
+def without_bodies(text):
+    """A file in the layout of rt fmt, in which the body of each function is `unreachable!()`, without those of an impl of a trait."""
+    lines, out, owner, number = text.split("\n"), [], None, 0
+    while number < len(lines):
+        line = lines[number]
+        head = re.match(r"impl(?:<.*?>)?\s+(.*?)\s*\{", line)
+        if head:
+            owner = None if " for " in head[1] else head[1]
+        elif line.startswith("}"):
+            owner = None
+        number += 1
+        out.append(line)
+        found = re.match(rf"(|    ){FUNCTION}", line)
+        if not found or "const fn" in line or found[1] and not owner:
+            continue
+        margin = found[1]
+        while not re.match(rf"{margin}(?:\{{\}}?|[^ {{].*(?: \{{|\{{.*\}}|;))$", out[-1]):
+            out.append(lines[number])
+            number += 1
+        if out[-1] == margin + "{" or out[-1].endswith(" {"):
+            while lines[number] != margin + "}":
+                number += 1
+            out.append(f"{margin}    unreachable!()")
+    # a function without its body is in no cycle of calls
+    return re.sub(rf"(?m)^ *#\[cycle\(\w+\)\]\n(?=\s*{FUNCTION})", "", "\n".join(out))
+
+
 def hole(crate, folder, path):
     """The proof of a function as a hole."""
     place = f"{folder}/proofs/{'/'.join(path)}"
@@ -78,6 +106,8 @@ def copied(crate):
             module = module[:-1] if module[-1] in ("lib", "mod") else module
             with open(f"{below}/{name}", encoding="utf-8") as file:
                 text = file.read()
+            with open(f"{below}/{name}", "w", encoding="utf-8") as file:
+                file.write(without_bodies(text))
             texts.append((text, module))
             for it in re.finditer(TYPE, text):
                 homes.setdefault(it[1], []).append(module)

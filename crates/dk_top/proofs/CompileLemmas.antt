@@ -1,5 +1,5 @@
 -- What `compile` writes.
-use Rattle.std.proofs.Common.{◌≡◌, ℕ, ◌≤◌, Bool, List, Option, None, Some, IfSome, refl}
+use Rattle.std.proofs.Common.{ℕ, ◌≤◌, Bool, List, Option, None, Some, IfSome}
 use Rattle.dk_base.specs.declared.TheConstants.{MAX_BUFFER_BITS}
 use Rattle.dk_types.specs.Typed.{Typing}
 use Rattle.pointwise_ir.specs.Programs.{Program}
@@ -10,8 +10,7 @@ use Rattle.dk_compile.specs.declared.compiling.Compiled.{Compiled}
 use Rattle.dk_compile.specs.Compiled.{IsPlanned}
 use Rattle.dk_endings.specs.declared.ending.Ending.{Ending}
 use Rattle.dk_compile.specs.Limits.{IsAcceptedAt}
-use Rattle.net_lines.specs.Lines.{net_lines}
-use Rattle.dk_top.specs.Compiling.{IsCompiledFrom, IsCompiledText, AreNetLines}
+use Rattle.dk_top.specs.Compiling.{IsCompiledFrom, IsCompiledText}
 use Rattle.dk_top.specs.Verdict.{Files, bytes_of}
 use Rattle.dk_top.specs.State.{HoldsOutput, HoldsText}
 
@@ -22,16 +21,6 @@ PlannedAccepted = (text : List ℕ) (age : ℕ) (p : Typing) (ir : Program) (s :
 -- a text that is compiled is accepted
 pub compiled_accepted : PlannedAccepted → (source : List ℕ) (age : ℕ) (enable : Bool) (block : Option ℕ) (c : Compiled) → (from : IsCompiledFrom source age enable block c) → IsAcceptedAt source age from.program
 compiled_accepted law source age enable block c from = law source age from.program c.ir c.system c.solution c.plan from.is.planned
-
-pub text_told : (told : Option Files) (program : List ℕ) (age : ℕ) (enable : Bool) (block : Option ℕ) (c : Compiled) → IfSome told (λ f. IsCompiledFrom (bytes_of f program) age enable block c) → IfSome told (λ f. IsCompiledText (bytes_of f program) age enable block c.text.items)
-text_told None program age enable block c from = tt
-text_told (Some f) program age enable block c from = record { compiled = c; from = from; is = refl }
-
--- the lines of the nets of what a program's text is compiled to
-pub lines_told : (told : Option Files) (program : List ℕ) (age : ℕ) (enable : Bool) (block : Option ℕ) (c : Compiled) (lines : List ℕ) → IfSome told (λ f. IsCompiledFrom (bytes_of f program) age enable block c)
-    → lines ≡ net_lines c.ir c.plan c.«module» c.nets.items c.reads.items → IfSome told (λ f. AreNetLines (bytes_of f program) age enable block lines)
-lines_told None program age enable block c lines from are = tt
-lines_told (Some f) program age enable block c lines from are = record { compiled = c; from = from; are = are }
 
 -- what is written is the text, or is related to it as it is to what was made
 pub text_stored : (told : Option Files) (program : List ℕ) (age : ℕ) (enable : Bool) (block : Option ℕ) (text : List ℕ) (bytes : Option (List ℕ)) (result : Ending) → IfSome told (λ f. IsCompiledText (bytes_of f program) age enable block text)

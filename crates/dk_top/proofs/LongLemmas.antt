@@ -105,9 +105,9 @@ rewrite_tells (Widen phases) text (ending.Verilog f) short h = absurd h
 rewrite_tells (Widen phases) text (ending.Stopped f) short h = absurd h
 rewrite_tells (Widen phases) text (ending.Rejected f) short h = absurd h
 
-pub short_rewrite : {A : Type 0} (result : Result A Ending) (told : Option Files) (name : List ℕ) (slot : Input) (how : Rewriting) (text : List ℕ) → length text ≤ MAX_SOURCE_BYTES → IfErr result (IsRewriteEnding how text) → IfErr result (λ e. IfSome told (λ f. LeavesText e (bytes_of f name) slot))
-short_rewrite (Ok x) told name slot how text short h = tt
-short_rewrite (Err e) told name slot how text short h = no_text told name slot e (rewrite_tells how text e short h)
+pub short_rewrite : {A : Type 0} (result : Result A Ending) (how : Rewriting) (text : List ℕ) → length text ≤ MAX_SOURCE_BYTES → IfErr result (IsRewriteEnding how text) → IfErr result TellsNoText
+short_rewrite (Ok x) how text short h = tt
+short_rewrite (Err e) how text short h = rewrite_tells how text e short h
 
 -- the ending of a Verilog text that is not too long
 other_verilog : (hold : Option ℕ) (text : List ℕ) (f : VerilogFault) → length text ≤ MAX_VERILOG_BYTES → IsModuleEnding hold text (ending.Verilog f) → TellsNoText (ending.Verilog f)
@@ -132,7 +132,7 @@ short_verilog (Ok x) told name slot hold text short h = tt
 short_verilog (Err e) told name slot hold text short h = no_text told name slot e (short_module hold text e short h)
 
 -- an ending of a text is none of images
-pub source_only : (is : SourceFault → Type 0) (e : Ending) → IsSourceEnding is e → TellsNoImages e
+source_only : (is : SourceFault → Type 0) (e : Ending) → IsSourceEnding is e → TellsNoImages e
 source_only is (ending.Source f) h = λ file slot. tt
 source_only is ending.ReadFault h = λ file slot. tt
 source_only is ending.Memory h = λ file slot. tt
@@ -145,9 +145,9 @@ source_only is (ending.Stopped f) h = absurd h
 source_only is (ending.Rejected f) h = absurd h
 source_only is (ending.Unable f) h = absurd h
 
-pub source_tells : {A : Type 0} (result : Result A Ending) (is : SourceFault → Type 0) → IfErr result (IsSourceEnding is) → IfErr result TellsNoImages
-source_tells (Ok x) is h = tt
-source_tells (Err e) is h = source_only is e h
+pub source_images : (told : Option Files) (is : Files → SourceFault → Type 0) (name : List ℕ) (slot : Input) (e : Ending) → IfSome told (λ f. IsSourceEnding (is f) e) → IfSome told (λ f. LeavesImages e (bytes_of f name) slot)
+source_images None is name slot e h = tt
+source_images (Some f) is name slot e h = source_only (is f) e h (bytes_of f name) slot
 
 module_only : (hold : Option ℕ) (text : List ℕ) (e : Ending) → IsModuleEnding hold text e → TellsNoImages e
 module_only hold text (ending.Verilog f) h = λ file slot. tt
@@ -162,9 +162,9 @@ module_only hold text (ending.Stopped f) h = absurd h
 module_only hold text (ending.Rejected f) h = absurd h
 module_only hold text (ending.Unable f) h = absurd h
 
-pub module_tells : {A : Type 0} (result : Result A Ending) (hold : Option ℕ) (text : List ℕ) → IfErr result (IsModuleEnding hold text) → IfErr result TellsNoImages
-module_tells (Ok x) hold text h = tt
-module_tells (Err e) hold text h = module_only hold text e h
+pub module_images : (told : Option Files) (text : List ℕ) (hold : Option ℕ) (name : List ℕ) (slot : Input) (e : Ending) → IfSome told (λ f. IsModuleEnding hold (bytes_of f text) e) → IfSome told (λ f. LeavesImages e (bytes_of f name) slot)
+module_images None text hold name slot e h = tt
+module_images (Some f) text hold name slot e h = module_only hold (bytes_of f text) e h (bytes_of f name) slot
 
 -- images that were not read
 unread_images : (file : List ℕ) (slot : Input) (e : Ending) → IsUnread (Some MAX_PGM_BYTES) file e → (e ≡ ending.Image image.TooLong → LeavesRest MAX_PGM_BYTES file slot) → LeavesImages e file slot

@@ -1,7 +1,6 @@
 -- What is read of a command's files.
-use Rattle.std.proofs.Common.{◌≡◌, ℕ, ◌<◌, ◌≤◌, List, length, map, Option, None, Some, Result, Ok, Err, IfOk, IfErr, IfSome, OnOk, sym, ap, ◌∙◌, subst, arith}
+use Rattle.std.proofs.Common.{◌≡◌, ℕ, ◌<◌, ◌≤◌, List, length, map, Option, None, Some, Result, Ok, Err, IfOk, IfErr, IfSome, sym, ap, ◌∙◌, subst, arith}
 use Rattle.std.proofs.lemmas.List.{length-map}
-use Rattle.dk_base.specs.declared.TheConstants.{MAX_SOURCE_BYTES}
 use Rattle.dk_base.specs.Types.{width_of}
 use Rattle.dk_types.specs.Typed.{Typing}
 use Rattle.pointwise_ir.specs.Programs.{Program, IsProgram}
@@ -10,7 +9,6 @@ use Rattle.flow_dual.specs.declared.solution.Solution.{Solution}
 use Rattle.buffer_plan.specs.Plans.{Plan}
 use Rattle.dk_compile.specs.Sources.{IsText, IsSourceFault}
 use Rattle.dk_compile.specs.Fronts.{IsForm}
-use Rattle.source_fault.specs.declared.fault.SourceFault.{SourceFault}
 use Rattle.dk_compile.specs.Compiled.{IsPlanned}
 use Rattle.pgm_codec.specs.Images.{Image}
 use Rattle.pgm_rounds.specs.declared.round.Round.{Round}
@@ -20,11 +18,13 @@ use Rattle.pgm_rounds.specs.Files.{FitsFile, frame_of, frames_of}
 use Rattle.dk_endings.specs.declared.ending.Ending.{Ending}
 use Rattle.dk_endings.specs.declared.ending.Ending.TheVariants as ending
 use Rattle.dk_endings.specs.declared.ending.ImageFault.TheVariants as image
-use Rattle.source_fault.specs.declared.fault.SourceFault.TheVariants as source
 use Rattle.dk_compile.specs.Limits.{IsAcceptedAt, IsFaultAt}
 use Rattle.dk_top.specs.Program.{ports}
 use Rattle.dk_top.specs.Verdict.{Terms, Files, bytes_of, IsGoodPair, IsAnswer}
-use Rattle.dk_top.specs.Reading.{IsSourceEnding, IsUnreadText, IsImageEnding, IsUnread, IsInputOf, IsRead}
+use Rattle.dk_desk.specs.Outside.{Outside}
+use Rattle.dk_top.specs.State.{AsksWhere}
+use Rattle.dk_top.specs.Unread.{unread_text}
+use Rattle.dk_top.specs.Reading.{IsSourceEnding, IsUnreadText, IsImageEnding, IsUnread, IsFormAt, IsInputOf, IsRead}
 
 -- a form expects of files what its program expects
 pub ports_same : (p : Typing) (ir : Program) → IsForm p ir → ports_of ir ≡ ports p
@@ -97,28 +97,31 @@ unread_told None most image ir e h = tt
 unread_told (Some f) most image ir e h = λ p form. unread_ending most (bytes_of f image) p e h
 
 -- both files are read
-pub read_told : (told between : Option Files) (terms : Terms) (program image text : List ℕ) (ir : Program) (rounds : List Round) → between ≡ told → IfSome told (λ f. text ≡ bytes_of f program) → ((p : Typing) × IsAcceptedAt text terms.age p × IsForm p ir) → ((p : Typing) → IsAcceptedAt text terms.age p → IsForm p ir)
+pub read_told : (told between : Option Files) (terms : Terms) (program image : List ℕ) (ir : Program) (rounds : List Round) → between ≡ told → IfSome told (λ f. IsFormAt (bytes_of f program) terms.age ir)
     → IfSome between (λ f. IsInputOf terms.most ir (bytes_of f image) rounds) → IfSome told (λ f. IsRead terms (bytes_of f program) (bytes_of f image) ir rounds)
-read_told None between terms program image text ir rounds same is accepted every input = tt
-read_told (Some f) between terms program image text ir rounds same is (p, has, form) every input =
+read_told None between terms program image ir rounds same is input = tt
+read_told (Some f) between terms program image ir rounds same is input =
     let Input : Option Files → Type 0 = λ o. IfSome o (λ f. IsInputOf terms.most ir (bytes_of f image) rounds) in
     let given : IsInputOf terms.most ir (bytes_of f image) rounds = subst Input same input in
-    let fit = given.some p form in
-    let Whole : List ℕ → Type 0 = λ source. IsRead terms source (bytes_of f image) ir rounds in
-    subst Whole is (record {
-      good = record { program = p; rounds = fit.0; accepted = has; fits = fit.1 };
-      formed = every;
+    let fit = given.some is.program is.form in
+    record {
+      good = record { program = is.program; rounds = fit.0; accepted = is.accepted; fits = fit.1 };
+      formed = is.every;
       input = given;
-    })
+    }
 
 -- the program is read, and the file does not fit
-pub misfit_told : (told between : Option Files) (terms : Terms) (program image text : List ℕ) (ir : Program) (e : Ending) → between ≡ told → IfSome told (λ f. text ≡ bytes_of f program) → ((p : Typing) × IsAcceptedAt text terms.age p × IsForm p ir)
+pub misfit_told : (told between : Option Files) (terms : Terms) (program image : List ℕ) (ir : Program) (e : Ending) → between ≡ told → IfSome told (λ f. IsFormAt (bytes_of f program) terms.age ir)
     → IfSome between (λ f. (p : Typing) → IsForm p ir → IsImageEnding terms.most p (bytes_of f image) e) → IfSome told (λ f. IsAnswer terms (bytes_of f program) (bytes_of f image) e)
-misfit_told None between terms program image text ir e same is accepted fault = tt
-misfit_told (Some f) between terms program image text ir e same is (p, has, form) fault =
+misfit_told None between terms program image ir e same is fault = tt
+misfit_told (Some f) between terms program image ir e same is fault =
     let Fault : Option Files → Type 0 = λ o. IfSome o (λ f. (p : Typing) → IsForm p ir → IsImageEnding terms.most p (bytes_of f image) e) in
-    let Whole : List ℕ → Type 0 = λ source. IsAnswer terms source (bytes_of f image) e in
-    subst Whole is (misfit_answer terms text (bytes_of f image) p has e ((subst Fault same fault) p form))
+    misfit_answer terms (bytes_of f program) (bytes_of f image) is.program is.accepted e ((subst Fault same fault) is.program is.form)
+
+-- the images are requested of a program that is accepted
+pub order_form : (told : Option Files) (program : List ℕ) (age : ℕ) (ir : Program) (o : Outside) → IfSome told (λ f. IsFormAt (bytes_of f program) age ir) → IfSome told (λ f. AsksWhere (IsAcceptedAt (bytes_of f program) age) o)
+order_form None program age ir o is = tt
+order_form (Some f) program age ir o is = λ asked. (is.program, is.accepted)
 
 -- what holds at each limit that a file is within holds at this one
 pub ok_within : {A E : Type 0} (r : Result A E) (most : Option ℕ) (n : ℕ) (Q : Option ℕ → A → Type 0) → IfSome most (λ m. n ≤ m) → IfOk r (λ a. (m : Option ℕ) → IfSome m (λ k. n ≤ k) → Q m a) → IfOk r (Q most)
@@ -128,30 +131,6 @@ ok_within (Err e) most n Q within h = tt
 pub err_within : {A E : Type 0} (r : Result A E) (most : Option ℕ) (n : ℕ) (Q : Option ℕ → E → Type 0) → IfSome most (λ m. n ≤ m) → IfErr r (λ e. (m : Option ℕ) → IfSome m (λ k. n ≤ k) → Q m e) → IfErr r (Q most)
 err_within (Ok a) most n Q within h = tt
 err_within (Err e) most n Q within h = h most within
-
--- a text that was not read, as the ending of a text with faults, of which one is its length
-pub unread_text : (is : SourceFault → Type 0) (text : List ℕ) (e : Ending) → (MAX_SOURCE_BYTES < length text → is source.TooLong) → IsUnreadText text e → IsSourceEnding is e
-unread_text is text (ending.Source source.TooLong) long h = long h
-unread_text is text ending.ReadFault long h = tt
-unread_text is text ending.Memory long h = tt
-unread_text is text ending.Done long h = absurd h
-unread_text is text ending.Usage long h = absurd h
-unread_text is text ending.WriteFault long h = absurd h
-unread_text is text (ending.Image f) long h = absurd h
-unread_text is text (ending.Verilog f) long h = absurd h
-unread_text is text (ending.Stopped f) long h = absurd h
-unread_text is text (ending.Rejected f) long h = absurd h
-unread_text is text (ending.Unable f) long h = absurd h
-unread_text is text (ending.Source (source.Lex x)) long h = absurd h
-unread_text is text (ending.Source (source.Nest x)) long h = absurd h
-unread_text is text (ending.Source (source.Syntax x)) long h = absurd h
-unread_text is text (ending.Source (source.Depth x)) long h = absurd h
-unread_text is text (ending.Source (source.Types x)) long h = absurd h
-unread_text is text (ending.Source (source.Nodes x)) long h = absurd h
-unread_text is text (ending.Source (source.InlineDepth x)) long h = absurd h
-unread_text is text (ending.Source (source.Reads x)) long h = absurd h
-unread_text is text (ending.Source (source.Bits x)) long h = absurd h
-unread_text is text (ending.Source (source.Latency x)) long h = absurd h
 
 pub unread_source : (told : Option Files) (name : List ℕ) (e : Ending) → IfSome told (λ f. IsUnreadText (bytes_of f name) e) → IfSome told (λ f. IsSourceEnding (IsSourceFault (bytes_of f name)) e)
 unread_source None name e h = tt
@@ -166,11 +145,14 @@ pub told_same : (told : Option Files) (a b name : List ℕ) → a ≡ b → IfSo
 told_same None a b name e is = tt
 told_same (Some f) a b name e is = e ∙ is
 
--- the same of a fact without the value
-pub good_told : {A E : Type 0} (r : Result A E) (told : Option Files) (file name : List ℕ) (Q : List ℕ → Type 0) → IfSome told (λ f. file ≡ bytes_of f name) → OnOk r (Q file) → OnOk r (IfSome told (λ f. Q (bytes_of f name)))
-good_told (Ok a) None file name Q is h = tt
-good_told (Ok a) (Some f) file name Q is h = subst Q is h
-good_told (Err e) told file name Q is h = tt
+-- the two facts of a pair
+pub told_first : (told : Option Files) (name : List ℕ) (P Q : List ℕ → Type 0) → IfSome told (λ f. P (bytes_of f name) × Q (bytes_of f name)) → IfSome told (λ f. P (bytes_of f name))
+told_first None name P Q h = tt
+told_first (Some f) name P Q h = h.0
+
+pub told_second : (told : Option Files) (name : List ℕ) (P Q : List ℕ → Type 0) → IfSome told (λ f. P (bytes_of f name) × Q (bytes_of f name)) → IfSome told (λ f. Q (bytes_of f name))
+told_second None name P Q h = tt
+told_second (Some f) name P Q h = h.1
 
 -- what is read is good
 pub read_good : (told : Option Files) (terms : Terms) (program image : List ℕ) (ir : Program) (rounds : List Round) → IfSome told (λ f. IsRead terms (bytes_of f program) (bytes_of f image) ir rounds) → IfSome told (λ f. IsGoodPair terms (bytes_of f program) (bytes_of f image))

@@ -34,7 +34,7 @@ use Rattle.dk_top.specs.Verdict.{Files, bytes_of, IsSimAnswer}
 use Rattle.dk_top.specs.State.{NotesSim}
 use Rattle.dk_top.specs.Reading.{IsUnread, Stops}
 use Rattle.dk_top.specs.Tracing.{trace_drive, IsTraceAnswer}
-use Rattle.dk_top.specs.Simulating.{IsModuleEnding, IsFileEnding, IsInputEnding, IsSimInput}
+use Rattle.dk_top.specs.Simulating.{IsFileEnding, IsInputEnding, IsSimInput}
 use Rattle.dk_top.proofs.SimLemmas.{OneModule, OneRounds, fits_some}
 
 -- what is specified of a text's fault is a fault of the text
@@ -47,11 +47,6 @@ own_fault (text.Net s n) hold t within is = (within, of_text (text.Net s n) is r
 
 pub told_ending : (f : TextFault) (told : VerilogFault) → told ≡ fault_told f → (hold : Option ℕ) (t : List ℕ) → length t ≤ MAX_VERILOG_BYTES → IsFault t f → IsVerilogFault hold t told
 told_ending f told e hold t within is = subst (IsVerilogFault hold t) (sym e) (own_fault f hold t within is)
-
--- an ending of a text, whatever clocks are held
-pub for_hold : (told : Option Files) (name : List ℕ) (hold : Option ℕ) (e : Ending) → IfSome told (λ f. (h : Option ℕ) → IsModuleEnding h (bytes_of f name) e) → IfSome told (λ f. IsModuleEnding hold (bytes_of f name) e)
-for_hold None name hold e h = tt
-for_hold (Some f) name hold e h = h hold
 
 -- a file that was not read has no other ending, whatever the module
 unread_ending : (m : NamedNetlist) (file : List ℕ) (e : Ending) → IsUnread (Some MAX_PGM_BYTES) file e → IsFileEnding m file e

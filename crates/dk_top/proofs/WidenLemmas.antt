@@ -11,10 +11,9 @@ use Rattle.dk_compile.specs.Limits.{IsFaultAt}
 use Rattle.dk_compile.specs.Widened.{IsWidenFault}
 use Rattle.dk_compile.proofs.Widened.{one_reason}
 use Rattle.dk_top.specs.Verdict.{Files, bytes_of, IsJudged, IsProgramAnswer, IsRewriteAnswer, CanBeRewritten, CanBeWidened, IsUnable}
-use Rattle.dk_top.specs.Reading.{IsSourceEnding, IsUnreadText, IsRewriteEnding}
+use Rattle.dk_top.specs.Reading.{IsSourceEnding, IsRewriteEnding}
 use Rattle.dk_top.proofs.VerdictLemmas.{OneProgram, ApartAt, OneFaultAt}
 use Rattle.dk_top.proofs.PlanLemmas.{program_answer}
-use Rattle.dk_top.proofs.ReadLemmas.{unread_at}
 
 -- no reason is judged that is the last one
 not_limits : (f : WidenFault) → IsJudged (ending.Unable f) → f ≢ fault.Limits
@@ -83,27 +82,6 @@ pub rewritten_memory : (how : Rewriting) (text : List ℕ) → IsRewriteAnswer h
 rewritten_memory (Cut levels) text = tt
 rewritten_memory Narrow text = tt
 rewritten_memory (Widen phases) text = tt
-
--- a text that is no program within its limits is not rewritten
-pub source_ended : (how : Rewriting) (text : List ℕ) (e : Ending) → IsSourceEnding (IsFaultAt text 0) e → IsRewriteEnding how text e
-source_ended (Cut levels) text e h = h
-source_ended Narrow text e h = h
-source_ended (Widen phases) text (ending.Unable f) h = absurd h
-source_ended (Widen phases) text (ending.Source f) h = h
-source_ended (Widen phases) text ending.ReadFault h = h
-source_ended (Widen phases) text ending.Memory h = h
-source_ended (Widen phases) text ending.Done h = absurd h
-source_ended (Widen phases) text ending.Usage h = absurd h
-source_ended (Widen phases) text ending.WriteFault h = absurd h
-source_ended (Widen phases) text (ending.Image f) h = absurd h
-source_ended (Widen phases) text (ending.Verilog f) h = absurd h
-source_ended (Widen phases) text (ending.Stopped f) h = absurd h
-source_ended (Widen phases) text (ending.Rejected f) h = absurd h
-
--- nor is one that was not read
-pub unread_rewrite : (told : Option Files) (name : List ℕ) (how : Rewriting) (e : Ending) → IfSome told (λ f. IsUnreadText (bytes_of f name) e) → IfSome told (λ f. IsRewriteEnding how (bytes_of f name) e)
-unread_rewrite None name how e h = tt
-unread_rewrite (Some f) name how e h = source_ended how (bytes_of f name) e (unread_at (Some f) name 0 e h)
 
 -- the answer of a program that is refused
 refused_answer : (text : List ℕ) (e : Ending) → IsSourceEnding (IsFaultAt text 0) e → IsProgramAnswer 0 text e

@@ -1,5 +1,7 @@
 -- What is read of a command's files, for the private functions.
-use Rattle.std.specs.Prelude.{◌≡◌, ℕ, ◌<◌, List, Option, ⊤, length, map, IfSome, IsSomeAnd}
+use Rattle.std.specs.Prelude.{◌≡◌, ◌≢◌, ℕ, ◌<◌, List, Option, Some, Result, Err, ⊤, length, map, IfSome, IsSomeAnd}
+use Rattle.dk_desk.specs.declared.Stage.TheVariants.{Unasked}
+use Rattle.dk_desk.specs.Calls.{HasCauseIn, IsIfTold}
 use Rattle.dk_types.specs.Typed.{Typing}
 use Rattle.pgm_codec.specs.Images.{Image}
 use Rattle.pgm_rounds.specs.declared.round.Round.{Round}
@@ -40,6 +42,18 @@ ReadsInputs old new = new ≡ record old { program = new.program; image = new.im
 -- the images were read, clocks were noted, and nothing else was changed
 abbrev pub ReadsAndNotes : (old new : Outside) → Type 0
 ReadsAndNotes old new = new ≡ record old { image = new.image; notes = new.notes; input_failures = new.input_failures }
+
+-- clocks were noted, and nothing else was changed
+abbrev pub NotesOnly : (old new : Outside) → Type 0
+NotesOnly old new = new ≡ record old { notes = new.notes }
+
+-- an input that was requested was requested under this name
+abbrev pub IsNamed : Input → (name : List ℕ) → Type 0
+IsNamed slot name = slot.stage ≢ Unasked → IsIfTold slot.name (Some name)
+
+-- a failed read is reported only where the count of failed reads may have risen, and always where it is greater than before
+abbrev pub TellsRead : {A : Type 0} → Result A Ending → (old new : Outside) → Type 0
+TellsRead result old new = HasCauseIn (result ≡ Err ending.ReadFault) old.input_failures new.input_failures
 
 -- Report was written, and nothing else was changed
 abbrev pub WritesReport : (old new : Outside) → Type 0
@@ -116,6 +130,13 @@ IsImageEnding most p file (ending.Image fault) = IsImageFault most p file fault
 IsImageEnding most p file ending.ReadFault = ⊤
 IsImageEnding most p file ending.Memory = ⊤
 IsImageEnding most p file _ = ⊥
+
+-- The text is accepted at this age, and this is the form of its program, whichever program it is read as.
+pub record IsFormAt (text : List ℕ) (age : ℕ) (ir : Program) : Type 0 where
+  pub program : Typing
+  pub accepted : IsAcceptedAt text age program
+  pub form : IsForm program ir
+  pub every : (p : Typing) → IsAcceptedAt text age p → IsForm p ir
 
 -- The file fits each program of this form, and these are the frames of the rounds that it is read as.
 pub record IsInputOf (most : Option ℕ) (ir : Program) (file : List ℕ) (rounds : List Round) : Type 0 where

@@ -4,7 +4,8 @@ ghost use Rattle.std.specs.Prelude.{◌≡◌, ◌≢◌, ◌<◌, ◌≤◌, So
 ghost use Rattle.dk_desk.specs.Outside.{input};
 ghost use Rattle.dk_desk.specs.Calls.{HasCauseIn, IsIfTold, OpensOnly, CreatesOnly, grown};
 ghost use Rattle.dk_top.specs.State.{IsPrefix, OthersStay, HasOwnFile, ReportsFront, LeavesRest};
-ghost use Rattle.dk_top.specs.Reading.{unread_by, WritesReport, OfFile, IsUnread, Stops, TellsNoText};
+ghost use Rattle.dk_top.specs.Reading.{unread_by, WritesReport, OfFile, IsUnread, Stops, TellsNoText, TellsRead};
+ghost use Rattle.dk_top.specs.Performing.{AllStay};
 
 use dk_desk::transfer::{ReadAll, read_all, read_upto, write_all};
 use dk_desk::{Desk, Failed, InSlot, OutSlot, Stage};
@@ -80,8 +81,7 @@ pub fn write_file<D: Desk>(desk: &mut D, name: &str, bytes: &[u8]) -> Result<(),
     ensures opened { OnOk result ((D.outside desk.new).file.stage ≡ Stage.Open) }
     ensures name { IsIfTold (D.outside desk.new).file.name (Some name.now) }
     ensures files { OthersStay name.now (D.outside desk.old).files (D.outside desk.new).files }
-    ensures files_stay { (D.outside desk.new).file.stage ≢ Stage.Open → (D.outside desk.new).files
-        ≡ (D.outside desk.old).files }
+    ensures files_stay { AllStay (D.outside desk.old) (D.outside desk.new) }
     ensures own { HasOwnFile (D.outside desk.new) }
     ensures only { CreatesOnly (D.outside desk.old) (D.outside desk.new) }
     ensures cause { HasCauseIn (IsErr result) (D.outside desk.old).output_failures
@@ -124,8 +124,7 @@ pub fn read_file<D: Desk>(
     ensures no_text { IfErr result TellsNoText }
     ensures name { IsIfTold (D.outside desk.new).image.name (Some name.now) }
     ensures only { OpensOnly InSlot.Image (D.outside desk.old) (D.outside desk.new) }
-    ensures cause { HasCauseIn (result ≡ Err Ending.ReadFault) (D.outside desk.old).input_failures
-        (D.outside desk.new).input_failures }
+    ensures cause { TellsRead result (D.outside desk.old) (D.outside desk.new) }
 {
     let read = match most {
         Some(limit) => read_input(alloc, desk, InSlot::Image, name, limit),

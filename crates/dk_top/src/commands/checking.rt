@@ -1,13 +1,13 @@
 //! `check`: whether a report holds of a program.
 
 ghost use Rattle.std.specs.Prelude.{◌≡◌, ◌≢◌, ◌≤◌, ℕ, List, Some, Err, IfOk, IfErr, length, vec_len};
-ghost use Rattle.dk_desk.specs.Calls.{HasCauseIn, IsIfTold, OpensOnly};
+ghost use Rattle.dk_desk.specs.Calls.{IsIfTold, OpensOnly};
 ghost use Rattle.dk_top.specs.Command.{check as check_command};
 ghost use Rattle.dk_compile.specs.Sources.{IsAccepted, IsSourceFault};
 ghost use Rattle.dk_top.specs.Reports.{IsChecked};
 ghost use Rattle.dk_top.specs.Verdict.{IsCheckAnswer};
 ghost use Rattle.dk_top.specs.State.{AsksWhere, LeavesText, LeavesImages};
-ghost use Rattle.dk_top.specs.Reading.{OfFile, OfFiles, ReadsInputs, LeavesInputs, Stops, IsSourceEnding, TellsNoText, TellsNoImages};
+ghost use Rattle.dk_top.specs.Reading.{OfFile, OfFiles, ReadsInputs, LeavesInputs, Stops, IsSourceEnding, TellsNoText, TellsNoImages, TellsRead, IsNamed};
 ghost use Rattle.dk_top.specs.Reporting.{HasFront, IsReportEnding, OfFront};
 
 use crate::files::{read_input, unread, write_report};
@@ -47,16 +47,11 @@ fn read_front<D: Desk>(alloc: Global, desk: &mut D, name: &str) -> Result<Front,
     ensures stops { IfErr result Stops }
     ensures left { IfErr result (λ e. OfFile (D.outside desk.old) name.now
         (λ source. LeavesText e source (D.outside desk.new).program)) }
-    ensures no_images { IfErr result TellsNoImages }
     ensures name { IsIfTold (D.outside desk.new).program.name (Some name.now) }
     ensures only { OpensOnly InSlot.Program (D.outside desk.old) (D.outside desk.new) }
-    ensures cause { HasCauseIn (result ≡ Err Ending.ReadFault) (D.outside desk.old).input_failures
-        (D.outside desk.new).input_failures }
+    ensures cause { TellsRead result (D.outside desk.old) (D.outside desk.new) }
 {
-    let text = match read_text(alloc, desk, name) {
-        Ok(text) => text,
-        Err(ending) => return Err(ending),
-    };
+    let text = read_text(alloc, desk, name)?;
     accepted(alloc, &text)
 }
 
@@ -95,8 +90,7 @@ fn report_bytes<D: Desk>(alloc: Global, desk: &mut D, name: &str) -> Result<Vec<
     ensures no_text { IfErr result TellsNoText }
     ensures name { IsIfTold (D.outside desk.new).image.name (Some name.now) }
     ensures only { OpensOnly InSlot.Image (D.outside desk.old) (D.outside desk.new) }
-    ensures cause { HasCauseIn (result ≡ Err Ending.ReadFault) (D.outside desk.old).input_failures
-        (D.outside desk.new).input_failures }
+    ensures cause { TellsRead result (D.outside desk.old) (D.outside desk.new) }
 {
     match read_input(alloc, desk, InSlot::Image, name, MAX_REPORT_BYTES) {
         Ok(report) => Ok(report),
@@ -124,13 +118,9 @@ fn read_report<D: Desk>(
     ensures no_text { IfErr result TellsNoText }
     ensures name { IsIfTold (D.outside desk.new).image.name (Some name.now) }
     ensures only { OpensOnly InSlot.Image (D.outside desk.old) (D.outside desk.new) }
-    ensures cause { HasCauseIn (result ≡ Err Ending.ReadFault) (D.outside desk.old).input_failures
-        (D.outside desk.new).input_failures }
+    ensures cause { TellsRead result (D.outside desk.old) (D.outside desk.new) }
 {
-    let report = match report_bytes(alloc, desk, name) {
-        Ok(report) => report,
-        Err(ending) => return Err(ending),
-    };
+    let report = report_bytes(alloc, desk, name)?;
     judged(alloc, front, &report)
 }
 
@@ -153,22 +143,14 @@ fn read_claim<D: Desk>(
     ensures stops { IfErr result Stops }
     ensures left { IfErr result (λ e. LeavesInputs e program.now report.now (D.outside desk.old)
         (D.outside desk.new)) }
-    ensures program_name { (D.outside desk.new).program.stage ≢ Stage.Unasked
-        → IsIfTold (D.outside desk.new).program.name (Some program.now) }
-    ensures image_name { (D.outside desk.new).image.stage ≢ Stage.Unasked
-        → IsIfTold (D.outside desk.new).image.name (Some report.now) }
+    ensures program_name { IsNamed (D.outside desk.new).program program.now }
+    ensures image_name { IsNamed (D.outside desk.new).image report.now }
     ensures only { ReadsInputs (D.outside desk.old) (D.outside desk.new) }
-    ensures cause { HasCauseIn (result ≡ Err Ending.ReadFault) (D.outside desk.old).input_failures
-        (D.outside desk.new).input_failures }
+    ensures cause { TellsRead result (D.outside desk.old) (D.outside desk.new) }
 {
-    let front = match read_front(alloc, desk, program) {
-        Ok(front) => front,
-        Err(ending) => return Err(ending),
-    };
-    match read_report(alloc, desk, &front, report) {
-        Ok(claim) => Ok(claim),
-        Err(ending) => Err(ending),
-    }
+    let front = read_front(alloc, desk, program)?;
+    let claim = read_report(alloc, desk, &front, report)?;
+    Ok(claim)
 }
 
 /// Judges a report from any source. If it holds, its claim is written to Report.

@@ -1,20 +1,20 @@
 //! `compile`: the Verilog text of a program.
 
-ghost use Rattle.std.specs.Prelude.{◌≡◌, ◌≢◌, ◌≤◌, ℕ, List, Some, Err, IfOk, IfErr, IfSome, OnOk};
+ghost use Rattle.std.specs.Prelude.{◌≢◌, ◌≤◌, Err, IfOk, IfErr, IfSome, OnOk};
 ghost use Rattle.dk_base.specs.declared.TheConstants.{MAX_AGE};
-ghost use Rattle.dk_desk.specs.Calls.{HasCauseIn, IsIfTold, OpensOnly};
 ghost use Rattle.dk_top.specs.Command.{compile as compile_command};
 ghost use Rattle.dk_compile.specs.Limits.{IsFaultAt};
 ghost use Rattle.dk_top.specs.Program.{CanBeCompiled};
 ghost use Rattle.dk_top.specs.Compiling.{IsCompiledFrom, IsCompiledText};
-ghost use Rattle.dk_top.specs.Reading.{OfFile, Stops, IsSourceEnding};
-ghost use Rattle.dk_top.specs.State.{LeavesText};
+ghost use Rattle.dk_top.specs.Reading.{Stops, IsSourceEnding};
+ghost use Rattle.dk_top.specs.Unread.{unread_text};
 
 use crate::files::write_file;
-use crate::reading::{ending_of, read_text};
+use crate::of_text::{OfText, read_with};
+use crate::reading::ending_of;
 use crate::work::Work;
 use dk_compile::{Compiled, Options, compile_with, one_at_age_law};
-use dk_desk::{Desk, InSlot, Stage};
+use dk_desk::Desk;
 use dk_endings::Ending;
 use dk_words::CompileWords;
 use std::alloc::Global;
@@ -36,69 +36,31 @@ pub fn compiled(alloc: Global, text: &[u8], options: Options) -> Result<Compiled
     }
 }
 
-// Reads, judges and compiles the program.
-pub fn read_compiled<D: Desk>(
-    alloc: Global,
-    desk: &mut D,
-    name: &str,
-    options: Options,
-) -> Result<Compiled, Ending>
-    requires fresh { (D.outside desk.old).program.stage ≡ Stage.Unasked }
-    requires before_create { (D.outside desk.old).file.stage ≡ Stage.Unasked }
-    requires age { options.age ≤ MAX_AGE }
-    requires block { IfSome options.block (λ n. 2 ≤ n) }
-    ensures compiled { IfOk result (λ c. OfFile (D.outside desk.old) name.now
-        (λ source. IsCompiledFrom source options.age options.enable options.block c)) }
-    ensures some { IfOk result (λ c. (source : List ℕ)
-        × IsCompiledFrom source options.age options.enable options.block c) }
-    ensures good { OnOk result (OfFile (D.outside desk.old) name.now
-        (λ source. CanBeCompiled source options.age)) }
-    ensures fault { IfErr result (λ e. OfFile (D.outside desk.old) name.now
-        (λ source. IsSourceEnding (IsFaultAt source options.age) e)) }
-    ensures stops { IfErr result Stops }
-    ensures left { IfErr result (λ e. OfFile (D.outside desk.old) name.now
-        (λ source. LeavesText e source (D.outside desk.new).program)) }
-    ensures name { IsIfTold (D.outside desk.new).program.name (Some name.now) }
-    ensures only { OpensOnly InSlot.Program (D.outside desk.old) (D.outside desk.new) }
-    ensures cause { HasCauseIn (result ≡ Err Ending.ReadFault) (D.outside desk.old).input_failures
-        (D.outside desk.new).input_failures }
-{
-    let text = match read_text(alloc, desk, name) {
-        Ok(text) => text,
-        Err(ending) => return Err(ending),
-    };
-    compiled(alloc, &text, options)
-}
+/// Makes the Verilog text of the program.
+impl OfText for CompileWords<'_> {
+    type Made = Vec<u8>;
 
-// Reads, judges and compiles the program, and returns its Verilog text.
-fn verilog_of<D: Desk>(
-    alloc: Global,
-    desk: &mut D,
-    name: &str,
-    options: Options,
-) -> Result<Vec<u8>, Ending>
-    requires fresh { (D.outside desk.old).program.stage ≡ Stage.Unasked }
-    requires before_create { (D.outside desk.old).file.stage ≡ Stage.Unasked }
-    requires age { options.age ≤ MAX_AGE }
-    requires block { IfSome options.block (λ n. 2 ≤ n) }
-    ensures text { IfOk result (λ text. OfFile (D.outside desk.old) name.now
-        (λ source. IsCompiledText source options.age options.enable options.block text.items)) }
-    ensures good { OnOk result (OfFile (D.outside desk.old) name.now
-        (λ source. CanBeCompiled source options.age)) }
-    ensures fault { IfErr result (λ e. OfFile (D.outside desk.old) name.now
-        (λ source. IsSourceEnding (IsFaultAt source options.age) e)) }
-    ensures stops { IfErr result Stops }
-    ensures left { IfErr result (λ e. OfFile (D.outside desk.old) name.now
-        (λ source. LeavesText e source (D.outside desk.new).program)) }
-    ensures name { IsIfTold (D.outside desk.new).program.name (Some name.now) }
-    ensures only { OpensOnly InSlot.Program (D.outside desk.old) (D.outside desk.new) }
-    ensures cause { HasCauseIn (result ≡ Err Ending.ReadFault) (D.outside desk.old).input_failures
-        (D.outside desk.new).input_failures }
-{
-    match read_compiled(alloc, desk, name, options) {
-        Ok(compiled) => Ok(compiled.text),
-        Err(ending) => Err(ending),
+    ghost ranges = { λ words. (words.age ≤ MAX_AGE) × IfSome words.block (λ n. 2 ≤ n) };
+
+    ghost makes = { λ words text made. IsCompiledText text words.age words.enable words.block made.items };
+
+    ghost good = { λ words text. CanBeCompiled text words.age };
+
+    ghost ends = { λ words text e. IsSourceEnding (IsFaultAt text words.age) e };
+
+    fn make(&self, alloc: Global, text: &[u8]) -> Result<Vec<u8>, Ending> {
+        let options = Options {
+            enable: self.enable,
+            age: self.age,
+            block: self.block,
+        };
+        match compiled(alloc, text, options) {
+            Ok(compiled) => Ok(compiled.text),
+            Err(ending) => Err(ending),
+        }
     }
+
+    ghost unread = { λ words text e h. unread_text (IsFaultAt text words.age) text e (λ long. long) h };
 }
 
 /// Compiles the program, and writes its Verilog text once the text is whole.
@@ -106,12 +68,7 @@ impl Work for CompileWords<'_> {
     ghost command = { λ words. compile_command words.program.now words.out.now words.enable words.age words.block };
 
     fn perform<D: Desk>(&self, alloc: Global, desk: &mut D) -> Ending {
-        let options = Options {
-            enable: self.enable,
-            age: self.age,
-            block: self.block,
-        };
-        let text = match verilog_of(alloc, desk, self.program, options) {
+        let text = match read_with(alloc, desk, self.program, self) {
             Ok(text) => text,
             Err(ending) => return ending,
         };

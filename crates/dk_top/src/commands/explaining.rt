@@ -2,11 +2,11 @@
 
 ghost use Rattle.std.specs.Prelude.{◌≡◌, ◌⊎◌, ◌≤◌, Some, Err, IfOk, IfErr, MatchOption, length};
 ghost use Rattle.dk_base.specs.declared.TheConstants.{MAX_SOURCE_BYTES};
-ghost use Rattle.dk_desk.specs.Calls.{HasCauseIn, IsIfTold, OpensOnly};
+ghost use Rattle.dk_desk.specs.Calls.{IsIfTold, OpensOnly};
 ghost use Rattle.dk_top.specs.Command.{explain as explain_command};
 ghost use Rattle.dk_compile.specs.Limits.{IsFaultAt};
 ghost use Rattle.dk_top.specs.Program.{CanBeCompiled};
-ghost use Rattle.dk_top.specs.Reading.{OfFile};
+ghost use Rattle.dk_top.specs.Reading.{OfFile, TellsRead};
 ghost use Rattle.dk_top.specs.Refusals.{IsJudgedAs, IsRefusedFor, TellsNoLength, LeavesJudged};
 
 use crate::files::{read_input, write_report};
@@ -85,8 +85,7 @@ fn read_judged<D: Desk>(alloc: Global, desk: &mut D, name: &str) -> Result<Judge
     ensures failed { IfErr result (λ e. (e ≡ Ending.ReadFault) ⊎ (e ≡ Ending.Memory)) }
     ensures name { IsIfTold (D.outside desk.new).program.name (Some name.now) }
     ensures only { OpensOnly InSlot.Program (D.outside desk.old) (D.outside desk.new) }
-    ensures cause { HasCauseIn (result ≡ Err Ending.ReadFault) (D.outside desk.old).input_failures
-        (D.outside desk.new).input_failures }
+    ensures cause { TellsRead result (D.outside desk.old) (D.outside desk.new) }
 {
     match read_input(alloc, desk, InSlot::Program, name, MAX_SOURCE_BYTES) {
         Ok(text) => judge_text(alloc, name, &text),

@@ -9,7 +9,7 @@ ghost use Rattle.dk_compile.specs.Limits.{IsFaultAt};
 ghost use Rattle.dk_top.specs.Program.{CanBeCompiled};
 ghost use Rattle.dk_top.specs.Compiling.{IsCompiledFrom};
 ghost use Rattle.dk_top.specs.Making.{IsMade, IsMadeLine, NotesMade};
-ghost use Rattle.dk_top.specs.Reading.{AreRead, IsInputOf, IsSourceEnding, Stops};
+ghost use Rattle.dk_top.specs.Reading.{AreRead, IsInputOf, IsSourceEnding, Stops, NotesOnly};
 
 use crate::commands::compiling::compiled;
 use crate::commands::running::{clocked, read_again};
@@ -55,10 +55,7 @@ fn made_ready(alloc: Global, n: u32) -> Result<Ready, Ending>
         age: 0,
         block: None,
     };
-    let compiled = match compiled(alloc, &made.program, options) {
-        Ok(compiled) => compiled,
-        Err(ending) => return Err(ending),
-    };
+    let compiled = compiled(alloc, &made.program, options)?;
     let Ok(module) = read_again(alloc, &compiled) else {
         return Err(Ending::Memory);
     };
@@ -95,8 +92,7 @@ fn line_of(alloc: Global, n: u32, compiled: &Compiled, file: &[u8]) -> Result<Ve
 
 // The line of a number, whose program was clocked on its image.
 fn made_line<D: Desk>(alloc: Global, desk: &mut D, n: u32) -> Result<Vec<u8>, Ending>
-    ensures only { D.outside desk.new ≡ record
-        (D.outside desk.old) { notes = (D.outside desk.new).notes } }
+    ensures only { NotesOnly (D.outside desk.old) (D.outside desk.new) }
     ensures line { IfOk result (λ line. IsMadeLine n line.items) }
     ensures notes { OnOk result (NotesMade n (D.outside desk.old).notes
         (D.outside desk.new).notes) }
@@ -106,10 +102,7 @@ fn made_line<D: Desk>(alloc: Global, desk: &mut D, n: u32) -> Result<Vec<u8>, En
     ensures judged { result ≢ Err Ending.ReadFault }
 {
     one_at_age_law();
-    let ready = match made_ready(alloc, n) {
-        Ok(ready) => ready,
-        Err(ending) => return Err(ending),
-    };
+    let ready = made_ready(alloc, n)?;
     let Ok(file) = clocked(alloc, desk, &ready.compiled, &ready.module, &ready.rounds) else {
         return Err(Ending::Memory);
     };

@@ -1,77 +1,58 @@
 //! `plan`: the report of a program's delays and buffer bits.
 
-ghost use Rattle.std.specs.Prelude.{◌≡◌, ◌≢◌, ◌≤◌, Some, Err, IfOk, IfErr, OnOk};
+ghost use Rattle.std.specs.Prelude.{◌≤◌, Err};
 ghost use Rattle.dk_base.specs.declared.TheConstants.{MAX_AGE};
-ghost use Rattle.dk_desk.specs.Calls.{HasCauseIn, IsIfTold, OpensOnly};
 ghost use Rattle.dk_compile.specs.Limits.{IsFaultAt};
 ghost use Rattle.dk_top.specs.Command.{plan as plan_command};
 ghost use Rattle.dk_top.specs.Program.{CanBeCompiled};
 ghost use Rattle.dk_top.specs.Plans.{IsPlanOf};
-ghost use Rattle.dk_top.specs.State.{LeavesText};
-ghost use Rattle.dk_top.specs.Reading.{OfFile, Stops, IsSourceEnding};
+ghost use Rattle.dk_top.specs.Reading.{IsSourceEnding};
+ghost use Rattle.dk_top.specs.Unread.{unread_text};
 
 use crate::files::write_report;
-use crate::reading::{ending_of, read_text};
+use crate::of_text::{OfText, read_with};
+use crate::reading::ending_of;
 use crate::work::Work;
 use dk_compile::{one_at_age_law, planned};
-use dk_desk::{Desk, InSlot, Stage};
+use dk_desk::Desk;
 use dk_endings::Ending;
 use dk_plan::plan_report;
 use dk_words::PlanWords;
 use source_names::source_names_law;
 use std::alloc::Global;
 
-// The report of a text's plan at an age.
-fn report_of(alloc: Global, text: &[u8], age: u8) -> Result<Vec<u8>, Ending>
-    requires age { age ≤ MAX_AGE }
-    ensures plan { IfOk result (λ report. IsPlanOf text.now age report.items) }
-    ensures good { OnOk result (CanBeCompiled text.now age) }
-    ensures fault { IfErr result (IsSourceEnding (IsFaultAt text.now age)) }
-    ensures stops { IfErr result Stops }
-    ensures judged { result ≢ Err Ending.ReadFault }
-{
-    source_names_law();
-    one_at_age_law();
-    let program = match planned(alloc, text, age) {
-        Ok(program) => program,
-        Err(error) => return Err(ending_of(error)),
-    };
-    match plan_report(
-        alloc,
-        &program.ir,
-        &program.system,
-        &program.solution,
-        &program.plan,
-    ) {
-        Ok(report) => Ok(report),
-        Err(_) => Err(Ending::Memory),
-    }
-}
+/// Makes the report of the program's plan.
+impl OfText for PlanWords<'_> {
+    type Made = Vec<u8>;
 
-// Reads and judges the program at an age, and returns its report.
-fn read_plan<D: Desk>(alloc: Global, desk: &mut D, name: &str, age: u8) -> Result<Vec<u8>, Ending>
-    requires fresh { (D.outside desk.old).program.stage ≡ Stage.Unasked }
-    requires before_create { (D.outside desk.old).file.stage ≡ Stage.Unasked }
-    requires age { age ≤ MAX_AGE }
-    ensures plan { IfOk result (λ report. OfFile (D.outside desk.old) name.now
-        (λ source. IsPlanOf source age report.items)) }
-    ensures good { OnOk result (OfFile (D.outside desk.old) name.now
-        (λ source. CanBeCompiled source age)) }
-    ensures fault { IfErr result (λ e. OfFile (D.outside desk.old) name.now
-        (λ source. IsSourceEnding (IsFaultAt source age) e)) }
-    ensures stops { IfErr result Stops }
-    ensures left { IfErr result (λ e. OfFile (D.outside desk.old) name.now
-        (λ source. LeavesText e source (D.outside desk.new).program)) }
-    ensures name { IsIfTold (D.outside desk.new).program.name (Some name.now) }
-    ensures only { OpensOnly InSlot.Program (D.outside desk.old) (D.outside desk.new) }
-    ensures cause { HasCauseIn (result ≡ Err Ending.ReadFault) (D.outside desk.old).input_failures
-        (D.outside desk.new).input_failures }
-{
-    let text = match read_text(alloc, desk, name) {
-        Ok(text) => text,
-        Err(ending) => return Err(ending),
-    };
-    report_of(alloc, &text, age)
+    ghost ranges = { λ words. words.age ≤ MAX_AGE };
+
+    ghost makes = { λ words text report. IsPlanOf text words.age report.items };
+
+    ghost good = { λ words text. CanBeCompiled text words.age };
+
+    ghost ends = { λ words text e. IsSourceEnding (IsFaultAt text words.age) e };
+
+    fn make(&self, alloc: Global, text: &[u8]) -> Result<Vec<u8>, Ending> {
+        source_names_law();
+        one_at_age_law();
+        let program = match planned(alloc, text, self.age) {
+            Ok(program) => program,
+            Err(error) => return Err(ending_of(error)),
+        };
+        match plan_report(
+            alloc,
+            &program.ir,
+            &program.system,
+            &program.solution,
+            &program.plan,
+        ) {
+            Ok(report) => Ok(report),
+            Err(_) => Err(Ending::Memory),
+        }
+    }
+
+    ghost unread = { λ words text e h. unread_text (IsFaultAt text words.age) text e (λ long. long) h };
 }
 
 /// Writes the report of the program's plan to Report.
@@ -79,7 +60,7 @@ impl Work for PlanWords<'_> {
     ghost command = { λ words. plan_command words.program.now words.age };
 
     fn perform<D: Desk>(&self, alloc: Global, desk: &mut D) -> Ending {
-        let report = match read_plan(alloc, desk, self.program, self.age) {
+        let report = match read_with(alloc, desk, self.program, self) {
             Ok(report) => report,
             Err(ending) => return ending,
         };

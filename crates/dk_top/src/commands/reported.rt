@@ -7,9 +7,9 @@ use itoa::Buffer;
 
 /// What a program was rewritten to, and the lines that report it.
 #[derive(Drop)]
-pub(super) struct Rewritten {
-    pub(super) text: Vec<u8>,
-    pub(super) lines: Vec<u8>,
+pub struct Rewritten {
+    pub text: Vec<u8>,
+    pub lines: Vec<u8>,
 }
 
 /// Adds a number, in decimal.

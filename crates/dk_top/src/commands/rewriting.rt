@@ -1,21 +1,23 @@
 //! `cut`, `narrow` and `widen`: other programs with the same pictures.
 
 ghost use Rattle.std.specs.Prelude.{◌≡◌, ◌≢◌, ◌⊎◌, Some, Err, IfOk, IfErr, IfSome, OnOk, OnErr, IsErr};
-ghost use Rattle.dk_desk.specs.Calls.{HasCauseIn, IsIfTold, OpensOnly, grown};
+ghost use Rattle.dk_desk.specs.Calls.{HasCauseIn, IsIfTold, grown};
 ghost use Rattle.dk_top.specs.Command.{rewrite as rewrite_command, IsRewriting};
 ghost use Rattle.dk_top.specs.Verdict.{CanBeRewritten};
 ghost use Rattle.dk_top.specs.Rewriting.{IsRewriteOf, AreRewriteLines};
-ghost use Rattle.dk_top.specs.Reading.{OfFile, Stops, IsRewriteEnding, WritesBoth, EndsInLine};
-ghost use Rattle.dk_top.specs.State.{LeavesText, IsPrefix, OthersStay, HasOwnFile};
+ghost use Rattle.dk_top.specs.Reading.{Stops, IsRewriteEnding, WritesBoth, EndsInLine};
+ghost use Rattle.dk_top.specs.Unread.{unread_rewrite};
+ghost use Rattle.dk_top.specs.State.{IsPrefix, OthersStay, HasOwnFile};
+ghost use Rattle.dk_top.specs.Performing.{AllStay};
 
 use super::cutting::cut_text;
 use super::narrowing::narrow_text;
 use super::reported::Rewritten;
 use super::widening::widen_text;
 use crate::files::{write_file, write_report};
-use crate::reading::read_text;
+use crate::of_text::{OfText, read_with};
 use crate::work::Work;
-use dk_desk::{Desk, Failed, InSlot, Stage};
+use dk_desk::{Desk, Failed, Stage};
 use dk_endings::Ending;
 use dk_words::{RewriteWords, Rewriting};
 use std::alloc::Global;
@@ -37,37 +39,24 @@ fn rewrite_text(alloc: Global, text: &[u8], how: Rewriting) -> Result<Rewritten,
     }
 }
 
-// Reads, judges and rewrites the program.
-fn read_rewritten<D: Desk>(
-    alloc: Global,
-    desk: &mut D,
-    name: &str,
-    how: Rewriting,
-) -> Result<Rewritten, Ending>
-    requires ranges { IsRewriting how }
-    requires fresh { (D.outside desk.old).program.stage ≡ Stage.Unasked }
-    requires before_create { (D.outside desk.old).file.stage ≡ Stage.Unasked }
-    ensures is { IfOk result (λ r. OfFile (D.outside desk.old) name.now
-        (λ source. IsRewriteOf how source r.text.items)) }
-    ensures lines { IfOk result (λ r. OfFile (D.outside desk.old) name.now
-        (λ source. AreRewriteLines how source r.text.items r.lines.items)) }
-    ensures good { OnOk result (OfFile (D.outside desk.old) name.now
-        (λ source. CanBeRewritten how source)) }
-    ensures fault { IfErr result (λ e. OfFile (D.outside desk.old) name.now
-        (λ source. IsRewriteEnding how source e)) }
-    ensures stops { IfErr result Stops }
-    ensures left { IfErr result (λ e. OfFile (D.outside desk.old) name.now
-        (λ source. LeavesText e source (D.outside desk.new).program)) }
-    ensures name { IsIfTold (D.outside desk.new).program.name (Some name.now) }
-    ensures only { OpensOnly InSlot.Program (D.outside desk.old) (D.outside desk.new) }
-    ensures cause { HasCauseIn (result ≡ Err Ending.ReadFault) (D.outside desk.old).input_failures
-        (D.outside desk.new).input_failures }
-{
-    let text = match read_text(alloc, desk, name) {
-        Ok(text) => text,
-        Err(ending) => return Err(ending),
-    };
-    rewrite_text(alloc, &text, how)
+/// Rewrites the program.
+impl OfText for RewriteWords<'_> {
+    type Made = Rewritten;
+
+    ghost ranges = { λ words. IsRewriting words.how };
+
+    ghost makes = { λ words text made. IsRewriteOf words.how text made.text.items
+        × AreRewriteLines words.how text made.text.items made.lines.items };
+
+    ghost good = { λ words text. CanBeRewritten words.how text };
+
+    ghost ends = { λ words text e. IsRewriteEnding words.how text e };
+
+    fn make(&self, alloc: Global, text: &[u8]) -> Result<Rewritten, Ending> {
+        rewrite_text(alloc, text, self.how)
+    }
+
+    ghost unread = { λ words text e h. unread_rewrite words.how text e h };
 }
 
 // Writes a text to File, and then lines to Report.
@@ -84,8 +73,7 @@ fn write_both<D: Desk>(desk: &mut D, name: &str, text: &[u8], line: &[u8]) -> Re
     ensures opened { OnOk result ((D.outside desk.new).file.stage ≡ Stage.Open) }
     ensures name { IsIfTold (D.outside desk.new).file.name (Some name.now) }
     ensures files { OthersStay name.now (D.outside desk.old).files (D.outside desk.new).files }
-    ensures files_stay { (D.outside desk.new).file.stage ≢ Stage.Open → (D.outside desk.new).files
-        ≡ (D.outside desk.old).files }
+    ensures files_stay { AllStay (D.outside desk.old) (D.outside desk.new) }
     ensures own { HasOwnFile (D.outside desk.new) }
     ensures only { WritesBoth (D.outside desk.old) (D.outside desk.new) }
     ensures cause { HasCauseIn (IsErr result) (D.outside desk.old).output_failures
@@ -100,7 +88,7 @@ impl Work for RewriteWords<'_> {
     ghost command = { λ words. rewrite_command words.how words.program.now words.out.now };
 
     fn perform<D: Desk>(&self, alloc: Global, desk: &mut D) -> Ending {
-        let rewritten = match read_rewritten(alloc, desk, self.program, self.how) {
+        let rewritten = match read_with(alloc, desk, self.program, self) {
             Ok(rewritten) => rewritten,
             Err(ending) => return ending,
         };

@@ -4,7 +4,7 @@ ghost use Rattle.std.specs.Prelude.{◌≡◌, ◌≤◌, ◌<◌, ◌^◌, ℕ,
 ghost use Rattle.dk_base.specs.declared.TheConstants.{MAX_AGE, MAX_LATENCY, MAX_FILE_IMAGES};
 ghost use Rattle.dk_base.specs.Frames.{IsFrame};
 ghost use Rattle.dk_base.specs.FrameSizes.{size_of};
-ghost use Rattle.dk_desk.specs.Calls.{HasCauseIn, IsIfTold, OpensOnly};
+ghost use Rattle.dk_desk.specs.Calls.{IsIfTold, OpensOnly};
 ghost use Rattle.dk_top.specs.Command.{run as run_command};
 ghost use Rattle.dk_compile.specs.Limits.{IsFaultAt};
 ghost use Rattle.dk_top.specs.Output.{output_file};
@@ -15,13 +15,13 @@ ghost use Rattle.dk_top.specs.Streaming.{IsOnePort};
 ghost use Rattle.dk_top.specs.Streams.{OfRun, OfCompiled, RunsOn, PerformsRun};
 ghost use Rattle.dk_types.specs.Typed.{Typing};
 ghost use Rattle.dk_compile.specs.Fronts.{IsForm};
-ghost use Rattle.dk_top.specs.Reading.{ReadsAndNotes, OfFile, AreRead, IsSourceEnding, Stops};
+ghost use Rattle.dk_top.specs.Reading.{ReadsAndNotes, OfFile, AreRead, IsSourceEnding, Stops, TellsRead, NotesOnly};
 
-use crate::commands::compiling::read_compiled;
+use crate::commands::compiling::compiled;
 use crate::commands::streaming::{is_one_port, run_streamed};
 use crate::files::write_file;
 use crate::laws::notes_agree_law;
-use crate::reading::read_images;
+use crate::reading::{read_images, read_text};
 use crate::work::Work;
 use cycle_sim::Fill;
 use dk_base::{FrameSize, OutOfMemory};
@@ -75,8 +75,7 @@ pub fn clocked<D: Desk>(
         × IsCompiledFrom source age false None compiled.now }
     requires again { «module».now ≡ compiled.now.«module» }
     requires read { AreRead compiled.now.ir rounds.now }
-    ensures only { D.outside desk.new ≡ record
-        (D.outside desk.old) { notes = (D.outside desk.new).notes } }
+    ensures only { NotesOnly (D.outside desk.old) (D.outside desk.new) }
     ensures output { IfOk result (λ output. OfRun compiled.now rounds.now
         (λ source file age. OfPair (run_terms age) source file
         (λ p rounds. output.items ≡ output_file p rounds))) }
@@ -127,18 +126,15 @@ fn read_machine<D: Desk>(
         (λ source. LeavesText e source (D.outside desk.new).program)) }
     ensures name { IsIfTold (D.outside desk.new).program.name (Some program.now) }
     ensures only { OpensOnly InSlot.Program (D.outside desk.old) (D.outside desk.new) }
-    ensures cause { HasCauseIn (result ≡ Err Ending.ReadFault) (D.outside desk.old).input_failures
-        (D.outside desk.new).input_failures }
+    ensures cause { TellsRead result (D.outside desk.old) (D.outside desk.new) }
 {
     let options = Options {
         enable: false,
         age,
         block: None,
     };
-    let compiled = match read_compiled(alloc, desk, program, options) {
-        Ok(compiled) => compiled,
-        Err(ending) => return Err(ending),
-    };
+    let text = read_text(alloc, desk, program)?;
+    let compiled = compiled(alloc, &text, options)?;
     match read_again(alloc, &compiled) {
         Ok(module) => Ok(Machine { compiled, module }),
         Err(_) => Err(Ending::Memory),
@@ -172,14 +168,10 @@ fn ran<D: Desk>(
     ensures stops { IfErr result Stops }
     ensures name { IsIfTold (D.outside desk.new).image.name (Some image.now) }
     ensures only { ReadsAndNotes (D.outside desk.old) (D.outside desk.new) }
-    ensures cause { HasCauseIn (result ≡ Err Ending.ReadFault) (D.outside desk.old).input_failures
-        (D.outside desk.new).input_failures }
+    ensures cause { TellsRead result (D.outside desk.old) (D.outside desk.new) }
 {
     one_at_age_law();
-    let rounds = match read_images(alloc, desk, &compiled.ir, image, None) {
-        Ok(rounds) => rounds,
-        Err(ending) => return Err(ending),
-    };
+    let rounds = read_images(alloc, desk, &compiled.ir, image, None)?;
     match clocked(alloc, desk, compiled, module, &rounds) {
         Ok(output) => Ok(output),
         Err(_) => Err(Ending::Memory),

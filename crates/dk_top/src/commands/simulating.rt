@@ -1,9 +1,9 @@
 //! `sim`: any Verilog text of the subset is clocked on the images of a file. `trace` reads the same files.
 
-ghost use Rattle.std.specs.Prelude.{◌≡◌, ◌≢◌, ◌≤◌, ◌<◌, ◌^◌, ℕ, List, Option, Some, None, Err, true, IsSome, IfOk, IfErr, IfSome, IfNone, OnOk, length, vec_len};
+ghost use Rattle.std.specs.Prelude.{◌≡◌, ◌≢◌, ◌≤◌, ◌<◌, ◌^◌, ℕ, List, Option, Some, None, Err, true, IsSome, IfOk, IfErr, IfSome, IfNone, OnOk, length};
 ghost use Rattle.dk_base.specs.Frames.{IsFrame};
 ghost use Rattle.dk_base.specs.FrameSizes.{size_of};
-ghost use Rattle.dk_desk.specs.Calls.{HasCauseIn, IsIfTold, OpensOnly};
+ghost use Rattle.dk_desk.specs.Calls.{IsIfTold, OpensOnly};
 ghost use Rattle.verilog_text.specs.Stands.{StandsFor};
 ghost use Rattle.verilog_text.specs.Faults.{IsFault, IsErrorBy};
 ghost use Rattle.cycle_sim.specs.Ports.{din_widths};
@@ -14,7 +14,7 @@ ghost use Rattle.dk_top.specs.Simulation.{drive_of, fill_of as fill_named, IsMod
 ghost use Rattle.dk_top.specs.Verdict.{IsSimAnswer};
 ghost use Rattle.dk_top.specs.State.{AsksWhereModule, NotesSim, LeavesText, LeavesImages};
 ghost use Rattle.dk_top.specs.Simulating.{OfInput, IsModuleEnding, IsFileEnding, IsInput, IsInputEnding, IsSimInput};
-ghost use Rattle.dk_top.specs.Reading.{LeavesInputs, ReadsInputs, OfFiles, OfFile, Stops, TellsNoText, TellsNoImages};
+ghost use Rattle.dk_top.specs.Reading.{LeavesInputs, ReadsInputs, OfFiles, OfFile, Stops, TellsNoText, TellsNoImages, TellsRead, NotesOnly, IsNamed};
 
 use crate::files::{read_file, read_input, unread, write_file};
 use crate::work::Work;
@@ -84,30 +84,6 @@ fn module_of(alloc: Global, text: &[u8], hold: Option<u32>) -> Result<Module, En
     }
 }
 
-// The bytes of the Verilog text.
-fn read_text<D: Desk>(alloc: Global, desk: &mut D, name: &str) -> Result<Vec<u8>, Ending>
-    requires fresh { (D.outside desk.old).program.stage ≡ Stage.Unasked }
-    requires before_create { (D.outside desk.old).file.stage ≡ Stage.Unasked }
-    ensures whole { IfOk result (λ bytes. OfFile (D.outside desk.old) name.now
-        (λ text. bytes.items ≡ text)) }
-    ensures within { IfOk result (λ bytes. vec_len bytes ≤ MAX_VERILOG_BYTES) }
-    ensures fault { IfErr result (λ e. OfFile (D.outside desk.old) name.now
-        (λ text. (hold : Option ℕ) → IsModuleEnding hold text e)) }
-    ensures stops { IfErr result Stops }
-    ensures left { IfErr result (λ e. OfFile (D.outside desk.old) name.now
-        (λ text. LeavesText e text (D.outside desk.new).program)) }
-    ensures no_images { IfErr result TellsNoImages }
-    ensures name { IsIfTold (D.outside desk.new).program.name (Some name.now) }
-    ensures only { OpensOnly InSlot.Program (D.outside desk.old) (D.outside desk.new) }
-    ensures cause { HasCauseIn (result ≡ Err Ending.ReadFault) (D.outside desk.old).input_failures
-        (D.outside desk.new).input_failures }
-{
-    match read_input(alloc, desk, InSlot::Program, name, MAX_VERILOG_BYTES) {
-        Ok(text) => Ok(text),
-        Err(error) => Err(unread(error, Ending::Verilog(VerilogFault::TooLong))),
-    }
-}
-
 // Reads and judges the Verilog text.
 fn read_module<D: Desk>(
     alloc: Global,
@@ -124,17 +100,14 @@ fn read_module<D: Desk>(
     ensures stops { IfErr result Stops }
     ensures left { IfErr result (λ e. OfFile (D.outside desk.old) name.now
         (λ text. LeavesText e text (D.outside desk.new).program)) }
-    ensures no_images { IfErr result TellsNoImages }
     ensures name { IsIfTold (D.outside desk.new).program.name (Some name.now) }
     ensures only { OpensOnly InSlot.Program (D.outside desk.old) (D.outside desk.new) }
-    ensures cause { HasCauseIn (result ≡ Err Ending.ReadFault) (D.outside desk.old).input_failures
-        (D.outside desk.new).input_failures }
+    ensures cause { TellsRead result (D.outside desk.old) (D.outside desk.new) }
 {
-    let text = match read_text(alloc, desk, name) {
-        Ok(text) => text,
-        Err(ending) => return Err(ending),
-    };
-    module_of(alloc, &text, hold)
+    match read_input(alloc, desk, InSlot::Program, name, MAX_VERILOG_BYTES) {
+        Ok(text) => module_of(alloc, &text, hold),
+        Err(error) => Err(unread(error, Ending::Verilog(VerilogFault::TooLong))),
+    }
 }
 
 // The rounds of a file within its limit, for a module.
@@ -180,13 +153,9 @@ fn read_images<D: Desk>(
     ensures no_text { IfErr result TellsNoText }
     ensures name { IsIfTold (D.outside desk.new).image.name (Some name.now) }
     ensures only { OpensOnly InSlot.Image (D.outside desk.old) (D.outside desk.new) }
-    ensures cause { HasCauseIn (result ≡ Err Ending.ReadFault) (D.outside desk.old).input_failures
-        (D.outside desk.new).input_failures }
+    ensures cause { TellsRead result (D.outside desk.old) (D.outside desk.new) }
 {
-    let file = match read_file(alloc, desk, name, Some(MAX_PGM_BYTES as usize)) {
-        Ok(file) => file,
-        Err(ending) => return Err(ending),
-    };
+    let file = read_file(alloc, desk, name, Some(MAX_PGM_BYTES as usize))?;
     rounds_for(alloc, module, &file)
 }
 
@@ -221,22 +190,14 @@ pub fn read_all<D: Desk>(
     ensures stops { IfErr result Stops }
     ensures left { IfErr result (λ e. LeavesInputs e verilog.now image.now (D.outside desk.old)
         (D.outside desk.new)) }
-    ensures program_name { (D.outside desk.new).program.stage ≢ Stage.Unasked
-        → IsIfTold (D.outside desk.new).program.name (Some verilog.now) }
-    ensures image_name { (D.outside desk.new).image.stage ≢ Stage.Unasked
-        → IsIfTold (D.outside desk.new).image.name (Some image.now) }
+    ensures program_name { IsNamed (D.outside desk.new).program verilog.now }
+    ensures image_name { IsNamed (D.outside desk.new).image image.now }
     ensures only { ReadsInputs (D.outside desk.old) (D.outside desk.new) }
-    ensures cause { HasCauseIn (result ≡ Err Ending.ReadFault) (D.outside desk.old).input_failures
-        (D.outside desk.new).input_failures }
+    ensures cause { TellsRead result (D.outside desk.old) (D.outside desk.new) }
 {
-    let module = match read_module(alloc, desk, verilog, hold) {
-        Ok(module) => module,
-        Err(ending) => return Err(ending),
-    };
-    match read_images(alloc, desk, &module, image) {
-        Ok(input) => Ok(SimInput { module, input }),
-        Err(ending) => Err(ending),
-    }
+    let module = read_module(alloc, desk, verilog, hold)?;
+    let input = read_images(alloc, desk, &module, image)?;
+    Ok(SimInput { module, input })
 }
 
 // What registers and arrays hold at power-up, by the command's word.
@@ -272,8 +233,7 @@ fn pictures<D: Desk>(
     requires clocks { drive.clocks < 2 ^ 60 }
     requires frame { IsFrame given.now.input.size.width given.now.input.size.height }
     requires frames { AreBenchFrames (din_widths given.now.«module».netlist) (size_of given.now.input.size) given.now.input.rounds.items }
-    ensures only { D.outside desk.new ≡ record
-        (D.outside desk.old) { notes = (D.outside desk.new).notes } }
+    ensures only { NotesOnly (D.outside desk.old) (D.outside desk.new) }
     ensures file { IfOk result (λ file. OfInput drive.hold given.now
         (λ text images. IsSimulated drive text images file.items)) }
     ensures only_file { IfOk result (λ file. OfInput drive.hold given.now

@@ -3,13 +3,13 @@
 ghost use Rattle.std.specs.Prelude.{◌≡◌, ◌≢◌, ℕ, ◌≤◌, ◌-◌, ◌^◌, List, false, None, Err, IsTrue, length, slice_index};
 ghost use Rattle.dk_base.specs.declared.TheConstants.{MAX_LATENCY, MAX_PORT_WIDTH};
 ghost use Rattle.dk_compile.specs.Fronts.{IsForm};
-ghost use Rattle.dk_desk.specs.Calls.{HasCauseIn};
 ghost use Rattle.dk_types.specs.Typed.{Typing};
 ghost use Rattle.row_stream.specs.Formats.{kind_of};
 ghost use Rattle.row_stream.specs.Whole.{IsStart};
 ghost use Rattle.dk_top.specs.Compiling.{IsCompiledFrom};
 ghost use Rattle.dk_top.specs.Streaming.{IsOnePort};
 ghost use Rattle.dk_top.specs.Streams.{StreamsFrom, OfCompiled, RunsStream, RunsOn};
+ghost use Rattle.dk_top.specs.Performing.{ReportsRead, ReportsWrite};
 
 use crate::laws::notes_agree_law;
 use dk_base::FrameSize;
@@ -72,10 +72,8 @@ fn stream_file<D: Desk>(
     requires start { IsStart stream.old }
     ensures runs { RunsStream (kind_of stream.old.format) stream.old.sim.netlist stream.old.bits latency image.now out.now
         stream.old.sim.contents (D.outside desk.old) (D.outside desk.new) result }
-    ensures read { HasCauseIn (result ≡ Ending.ReadFault) (D.outside desk.old).input_failures
-        (D.outside desk.new).input_failures }
-    ensures write { HasCauseIn (result ≡ Ending.WriteFault) (D.outside desk.old).output_failures
-        (D.outside desk.new).output_failures }
+    ensures read { ReportsRead result (D.outside desk.old) (D.outside desk.new) }
+    ensures write { ReportsWrite result (D.outside desk.old) (D.outside desk.new) }
 {
     match desk.open_in(InSlot::Image, image) {
         Err(_) => return Ending::ReadFault,
@@ -109,10 +107,8 @@ fn run_lines<D: Desk>(
     ensures runs { result ≢ Ending.Memory → (source : List ℕ) (age : ℕ) → (from : IsCompiledFrom source age false None compiled.now)
         → StreamsFrom from.program compiled.now.plan «module».now.netlist image.now out.now
         (D.outside desk.old) (D.outside desk.new) result }
-    ensures read { HasCauseIn (result ≡ Ending.ReadFault) (D.outside desk.old).input_failures
-        (D.outside desk.new).input_failures }
-    ensures write { HasCauseIn (result ≡ Ending.WriteFault) (D.outside desk.old).output_failures
-        (D.outside desk.new).output_failures }
+    ensures read { ReportsRead result (D.outside desk.old) (D.outside desk.new) }
+    ensures write { ReportsWrite result (D.outside desk.old) (D.outside desk.new) }
 {
     one_source_law();
     compiled.ir.law();

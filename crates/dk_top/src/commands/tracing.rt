@@ -2,7 +2,7 @@
 
 ghost use Rattle.std.specs.Prelude.{◌≡◌, ◌≢◌, ◌<◌, ◌^◌, ℕ, List, Some, None, IfSome};
 ghost use Rattle.dk_base.specs.FrameSizes.{size_of};
-ghost use Rattle.dk_desk.specs.Calls.{HasCauseIn, IsIfTold, CreatesOnly};
+ghost use Rattle.dk_desk.specs.Calls.{IsIfTold, CreatesOnly};
 ghost use Rattle.cycle_sim.specs.Ports.{din_widths};
 ghost use Rattle.stimulus.specs.Given.{AreBenchFrames};
 ghost use Rattle.trace_bench.specs.Tracers.{IsTracer};
@@ -11,6 +11,7 @@ ghost use Rattle.dk_top.specs.Tracing.{IsTraceAnswer, IsStoredTrace};
 ghost use Rattle.dk_top.specs.State.{CreatesNothing, CreatesTrace, OthersStay, HasOwnFile};
 ghost use Rattle.dk_top.specs.Simulating.{OfInput};
 ghost use Rattle.dk_top.specs.Reading.{TellsNoText, TellsNoImages};
+ghost use Rattle.dk_top.specs.Performing.{ReportsWrite, AllStay};
 
 use crate::commands::simulating::{SimInput, drive_for, read_all};
 use crate::work::Work;
@@ -50,12 +51,10 @@ fn write_trace<D: Desk>(
     ensures written { result ≡ Ending.Done → (D.outside desk.new).file.stage ≡ Stage.Open }
     ensures name { IsIfTold (D.outside desk.new).file.name (Some name.now) }
     ensures files { OthersStay name.now (D.outside desk.old).files (D.outside desk.new).files }
-    ensures files_stay { (D.outside desk.new).file.stage ≢ Stage.Open → (D.outside desk.new).files
-        ≡ (D.outside desk.old).files }
+    ensures files_stay { AllStay (D.outside desk.old) (D.outside desk.new) }
     ensures own { HasOwnFile (D.outside desk.new) }
     ensures only { CreatesOnly (D.outside desk.old) (D.outside desk.new) }
-    ensures cause { HasCauseIn (result ≡ Ending.WriteFault) (D.outside desk.old).output_failures
-        (D.outside desk.new).output_failures }
+    ensures cause { ReportsWrite result (D.outside desk.old) (D.outside desk.new) }
 {
     given.module.law();
     match desk.create(name) {
@@ -106,12 +105,10 @@ fn traced<D: Desk>(
     ensures name { (D.outside desk.new).file.stage ≢ Stage.Unasked
         → IsIfTold (D.outside desk.new).file.name (Some name.now) }
     ensures files { OthersStay name.now (D.outside desk.old).files (D.outside desk.new).files }
-    ensures files_stay { (D.outside desk.new).file.stage ≢ Stage.Open → (D.outside desk.new).files
-        ≡ (D.outside desk.old).files }
+    ensures files_stay { AllStay (D.outside desk.old) (D.outside desk.new) }
     ensures own { HasOwnFile (D.outside desk.new) }
     ensures only { CreatesOnly (D.outside desk.old) (D.outside desk.new) }
-    ensures cause { HasCauseIn (result ≡ Ending.WriteFault) (D.outside desk.old).output_failures
-        (D.outside desk.new).output_failures }
+    ensures cause { ReportsWrite result (D.outside desk.old) (D.outside desk.new) }
 {
     match Tracer::new(alloc, &given.module, drive.fill) {
         Ok(mut tracer) => write_trace(desk, given, &mut tracer, drive, name),

@@ -2,16 +2,13 @@ use Rattle.dk_top.proofs.ReadLemmas.{unread_source}
 use Rattle.std.proofs.Common.{rules, ◌≤◌, length}
 use Rattle.dk_base.specs.declared.TheConstants.{MAX_SOURCE_BYTES}
 use Rattle.dk_compile.specs.Sources.{IsSourceFault}
-use Rattle.dk_top.proofs.LongLemmas.{short_text, source_tells}
+use Rattle.dk_top.proofs.LongLemmas.{short_text}
 use Rattle.dk_top.proofs.commands.checking.read_front.Goals as goal
 
-pub returns-in-Err-clause-fault : goal.returns-in-Err-clause-fault
-returns-in-Err-clause-fault g c = unread_source _ c.args.name.now c.in-Err.ending c.in-Err.ensures.fault
+pub returns-in_err-text-clause-fault : goal.returns-in_err-text-clause-fault
+returns-in_err-text-clause-fault g c = unread_source _ c.args.name.now c.in_err-text.field c.in_err-text.ensures.fault
 
 pub returns-clause-left : goal.returns-clause-left
 returns-clause-left g c =
     let within : length c.deref.result.now ≤ MAX_SOURCE_BYTES = search rules in
     short_text c.accepted.result _ c.args.name.now _ (IsSourceFault c.deref.result.now) c.deref.result.now (λ h. h) within c.accepted.ensures.fault
-
-pub returns-clause-no_images : goal.returns-clause-no_images
-returns-clause-no_images g c = source_tells c.accepted.result (IsSourceFault c.deref.result.now) c.accepted.ensures.fault

@@ -1,22 +1,15 @@
 use Rattle.dk_top.specs.Simulation.{IsModuleOf}
 use Rattle.dk_top.proofs.ReadLemmas.{ok_told, told_same}
-use Rattle.dk_top.proofs.SimReads.{for_hold}
 use Rattle.std.proofs.Common.{rules, ◌≤◌, length}
 use Rattle.dk_base.specs.declared.TheConstants.{MAX_VERILOG_BYTES}
-use Rattle.dk_top.proofs.LongLemmas.{short_verilog, module_tells}
+use Rattle.dk_top.proofs.LongLemmas.{short_verilog}
 use Rattle.dk_top.proofs.commands.simulating.read_module.Goals as goal
 
-pub returns-in-Err-clause-fault : goal.returns-in-Err-clause-fault
-returns-in-Err-clause-fault g c = for_hold _ c.args.name.now c.args.hold c.in-Err.ending c.in-Err.ensures.fault
-
-pub returns-clause-left : goal.returns-clause-left
-returns-clause-left g c =
+pub returns-in-Ok-clause-left : goal.returns-in-Ok-clause-left
+returns-in-Ok-clause-left g c =
     let within : length c.deref.result.now ≤ MAX_VERILOG_BYTES = search rules in
     short_verilog c.module_of.result _ c.args.name.now _ c.args.hold c.deref.result.now within c.module_of.ensures.fault
 
-pub returns-clause-no_images : goal.returns-clause-no_images
-returns-clause-no_images g c = module_tells c.module_of.result c.args.hold c.deref.result.now c.module_of.ensures.fault
-
-pub returns-clause-made : goal.returns-clause-made
-returns-clause-made g c =
+pub returns-in-Ok-clause-made : goal.returns-in-Ok-clause-made
+returns-in-Ok-clause-made g c =
     ok_told c.module_of.result _ c.deref.result.now c.args.name.now (λ m text. IsModuleOf c.args.hold text m) (told_same _ c.deref.result.now _ c.args.name.now c.deref.ensures.value c.in-Ok.ensures.whole) c.module_of.ensures.made

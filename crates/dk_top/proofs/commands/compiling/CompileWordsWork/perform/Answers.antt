@@ -6,13 +6,13 @@ use Rattle.dk_top.proofs.commands.compiling.CompileWordsWork.perform.Goals as go
 
 pub returns-in-Ok-write_file-clause-output : goal.returns-in-Ok-write_file-clause-output
 returns-in-Ok-write_file-clause-output g c = λ opened.
-    text_stored _ c.args.self.now.program.now c.args.self.now.age c.args.self.now.enable c.args.self.now.block c.in-Ok.text.items _ ending.Done c.in-Ok.ensures.text
+    text_stored _ c.args.self.now.program.now c.args.self.now.age c.args.self.now.enable c.args.self.now.block c.in-Ok.text.items _ ending.Done c.in-Ok.ensures.made
     (subst (λ (bytes : List ℕ). IfSome (g.D.Desk.outside c.write_file.new.desk).file.bytes (λ written. written ≡ bytes)) c.deref.ensures.value c.in-Ok-write_file.ensures.whole)
 
 pub returns-clause-output : goal.returns-clause-output
 returns-clause-output g c = λ opened.
-    text_stored _ c.args.self.now.program.now c.args.self.now.age c.args.self.now.enable c.args.self.now.block c.in-Ok.text.items _ ending.WriteFault c.in-Ok.ensures.text
+    text_stored _ c.args.self.now.program.now c.args.self.now.age c.args.self.now.enable c.args.self.now.block c.in-Ok.text.items _ ending.WriteFault c.in-Ok.ensures.made
     (subst (λ (bytes : List ℕ). IfSome (g.D.Desk.outside c.write_file.new.desk).file.bytes (λ written. IsPrefix written bytes)) c.deref.ensures.value (c.in-Err-write_file.ensures.prefix opened))
 
-pub verilog_of-requires-clause-block : goal.verilog_of-requires-clause-block
-verilog_of-requires-clause-block g c = block_low c.args.self.now.block c.requires.ranges.1
+pub read_with-requires-clause-ranges : goal.read_with-requires-clause-ranges
+read_with-requires-clause-ranges g c = (c.requires.ranges.0, block_low c.args.self.now.block c.requires.ranges.1)
