@@ -174,9 +174,11 @@ pub fn atom_numbers<'a>(
     ensures count { length (numbers_in result) ≡ count }
     ensures row { IsAtomRow (values_of rows.now) a.now count (numbers_in result) }
 {
-    let _atom = a;
     match own {
-        Some(slot) => first_numbers(row_at(rows, slot), count),
+        Some(_) => match a {
+            Atom::Net(slot) => first_numbers(row_at(rows, *slot), count),
+            Atom::Constant(_) => unreachable!(),
+        },
         None => Numbers::Wide(first_of(spare, count)),
     }
 }
