@@ -65,10 +65,10 @@ pub record IsStretch (first last count : ℕ) : Type 0 where
   pub within : last ≤ count
 
 -- an instruction can be run over rows of this many places, in a lane of this many bits
-pub record CanRunIn (bits : ℕ) (widths : List ℕ) (clocks : ℕ) (made : List (List ℕ)) (i : Instruction) : Type 0 where
+pub record CanRunIn (bits : ℕ) (widths : List ℕ) (clocks : ℕ) (made : List Row) (i : Instruction) : Type 0 where
   pub sound : IsSound widths i
   pub sized : IsSized widths bits i
-  pub rows : AreRows widths clocks made
+  pub rows : AreRows widths clocks (values_of made)
 
 -- the row of an instruction was put into its slot, and no other row has changed
 pub record RowIsPut (widths : List ℕ) (clocks : ℕ) (i : Instruction) (old new : List Row) : Type 0 where

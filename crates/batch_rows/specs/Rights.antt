@@ -6,9 +6,10 @@ use Rattle.wiring.specs.declared.right.Right.{Right}
 use Rattle.wiring.specs.declared.right.Right.TheVariants.{Copy, Not, Binary, Choose, Join, Repeat, Bit, Slice, Word}
 use Rattle.wiring.specs.Rights.{array_of, atom_width, atom_value, right_value}
 use Rattle.wiring.specs.Rules.{WidthsAgree}
+use Rattle.batch_rows.specs.declared.rights.Operand.{Operand}
 use Rattle.batch_rows.specs.declared.rights.Slots.{Slots}
 use Rattle.batch_rows.specs.declared.rights.Spares.{Spares}
-use Rattle.batch_rows.specs.Rows.{choice}
+use Rattle.batch_rows.specs.Rows.{number_in, choice}
 use Rattle.lane_rows.specs.Values.{value_at, values_of}
 
 -- the row of an atom has this many clocks
@@ -66,13 +67,24 @@ pub record IsRowOf {A : Type 0} (value : A → ℕ) (rows : List (List ℕ)) (a 
   pub count : length read ≡ clocks
   pub row : IsAtomRow rows a clocks (map value read)
 
--- a right side that reads no array can be made in a lane of this many bits, with spare rows
-pub record CanMake {T : Type 0} (bits : ℕ) (slots : Slots) (spares : Spares T) (count : ℕ) (r : Right ℕ ℕ) : Type 0 where
-  pub operands : AreOperands bits slots.widths.now (values_of slots.rows.now) count r
+-- the same of an operand, in its first clocks
+abbrev pub CanReadOperand : (bits : ℕ) → Operand → (places : ℕ) → Type 0
+CanReadOperand bits o places = CanRead bits (values_of o.rows.now) o.count places o.atom.now
+
+abbrev pub IsRowOfOperand : {A : Type 0} → (A → ℕ) → Operand → List A → Type 0
+IsRowOfOperand value o row = IsRowOf value (values_of o.rows.now) o.atom.now o.count row
+
+-- a row that may be longer begins with that of an operand
+abbrev pub IsFilled : {A : Type 0} → (A → ℕ) → Operand → List A → Type 0
+IsFilled value o row = IsAtomRow (values_of o.rows.now) o.atom.now o.count (map value row)
+
+-- a right side that reads no array can be made in a row of a lane of this many bits, with spare rows
+pub record CanMake {T : Type 0} (bits : ℕ) (slots : Slots) (spares : Spares T) (to : List T) (r : Right ℕ ℕ) : Type 0 where
+  pub operands : AreOperands bits slots.widths.now (values_of slots.rows.now) (length to) r
   pub agree : WidthsAgree (λ n. slice_index slots.widths.now n) (λ _. 0) r
   pub plain : array_of r ≡ None
-  pub fits : (t : ℕ) → t < count → right_value (λ n. slice_index slots.widths.now n) (λ _ _. 0) (value_at (values_of slots.rows.now) t) r < 2 ^ bits
-  pub room : HaveRoom spares count
+  pub fits : (t : ℕ) → t < length to → right_value (λ n. slice_index slots.widths.now n) (λ _ _. 0) (value_at (values_of slots.rows.now) t) r < 2 ^ bits
+  pub room : HaveRoom spares (length to)
 
 -- the row of a right side was written
 pub record IsMade {A : Type 0} (value : A → ℕ) (slots : Slots) (r : Right ℕ ℕ) (old new : Spares A) (before to : List A) : Type 0 where
@@ -80,13 +92,13 @@ pub record IsMade {A : Type 0} (value : A → ℕ) (slots : Slots) (r : Right �
   pub count : length to ≡ length before
   pub row : IsRightRow slots.widths.now (values_of slots.rows.now) r (map value to)
 
--- one of two atoms can be chosen at each clock by a row of bits with this many places, in a lane
-pub record CanChoose (lane : ℕ) (rows : List (List ℕ)) (count bits : ℕ) (ones others : Atom ℕ) : Type 0 where
-  pub bit : bits ≡ count
-  pub on : IsOperand lane rows count ones
-  pub off : IsOperand lane rows count others
+-- one of two atoms can be chosen at each clock of a row, by a row of bits, in a lane of this many bits
+pub record CanChoose {A B : Type 0} (lane : ℕ) (rows : List (List ℕ)) (to : List A) (bits : List B) (ones others : Atom ℕ) : Type 0 where
+  pub bit : length bits ≡ length to
+  pub on : IsOperand lane rows (length to) ones
+  pub off : IsOperand lane rows (length to) others
 
 -- one of two atoms was written at each clock, by its bit
-pub record IsChosen {A : Type 0} (value : A → ℕ) (rows : List (List ℕ)) (bit : ℕ → ℕ) (ones others : Atom ℕ) (old new : List A) : Type 0 where
+pub record IsChosen {A B : Type 0} (value : A → ℕ) (bit : B → ℕ) (rows : List (List ℕ)) (bits : List B) (ones others : Atom ℕ) (old new : List A) : Type 0 where
   pub count : length new ≡ length old
-  pub row : (t : ℕ) → t < length new → slice_index (map value new) t ≡ choice (bit t) (atom_value (value_at rows t) ones) (atom_value (value_at rows t) others)
+  pub row : (t : ℕ) → t < length new → slice_index (map value new) t ≡ choice (number_in bit bits t) (atom_value (value_at rows t) ones) (atom_value (value_at rows t) others)

@@ -67,7 +67,7 @@ fn make_row<L: Lane>(
     scratch: &mut Scratch<L>,
     instruction: &Instruction,
 )
-    requires one { CanRunIn L.bits widths.now (length scratch.old.to.items) (values_of rows.now) instruction.now }
+    requires one { CanRunIn L.bits widths.now (length scratch.old.to.items) rows.now instruction.now }
     requires scratch { HasScratch scratch.old (length scratch.old.to.items) }
     ensures scratch { HasScratch scratch.new (length scratch.old.to.items) }
     ensures row { IsRightRow widths.now (values_of rows.now) instruction.now.right (map L.value scratch.new.to.items) }
@@ -88,11 +88,11 @@ fn run_in<L: Lane>(
     scratch: &mut Scratch<L>,
     instruction: &Instruction,
 )
-    requires one { CanRunIn L.bits widths.now (length scratch.old.to.items) (values_of rows.old) instruction.now }
+    requires one { CanRunIn L.bits widths.now (length scratch.old.to.items) rows.old instruction.now }
     requires lanes { InLanes widths.now rows.old }
     requires scratch { HasScratch scratch.old (length scratch.old.to.items) }
     ensures scratch { HasScratch scratch.new (length scratch.old.to.items) }
-    ensures rows { RowIsPut widths.now (length scratch.old.to.items) instruction.now rows.old rows.new }
+    ensures put { RowIsPut widths.now (length scratch.old.to.items) instruction.now rows.old rows.new }
 {
     make_row(widths, rows, scratch, instruction);
     put_row(rows, instruction.target, &mut scratch.to);
@@ -107,11 +107,11 @@ fn run_instruction(
     size: Size,
     count: usize,
 )
-    requires one { CanRunIn (bits_of size) widths.now count (values_of rows.old) instruction.now }
+    requires one { CanRunIn (bits_of size) widths.now count rows.old instruction.now }
     requires lanes { InLanes widths.now rows.old }
     requires rooms { HaveRooms rooms.old count }
     ensures rooms { HaveRooms rooms.new count }
-    ensures rows { RowIsPut widths.now count instruction.now rows.old rows.new }
+    ensures put { RowIsPut widths.now count instruction.now rows.old rows.new }
 {
     match size {
         Size::Narrow => run_in(widths, rows, &mut rooms.narrow, instruction),
@@ -143,7 +143,7 @@ pub fn run_code(
     requires ran { HaveRun code.now.widths.now code.now.instructions.now count rows.old first }
     requires rooms { HaveRooms rooms.old count }
     ensures rooms { HaveRooms rooms.new count }
-    ensures rows { RowsAreRun code.now.widths.now code.now.instructions.now count rows.old rows.new last }
+    ensures run { RowsAreRun code.now.widths.now code.now.instructions.now count rows.old rows.new last }
 {
     let widths = code.widths;
     let instructions = code.instructions;

@@ -3,8 +3,8 @@
 ghost use Rattle.std.specs.Prelude.{◌≡◌, ◌<◌, length, false, IsTrue, IfOk, Contains, slice_index_or};
 ghost use Rattle.wiring.specs.Rights.{nets_of};
 ghost use Rattle.batch_rows.specs.Code.{IsOrdered};
-ghost use Rattle.wiring.specs.declared.right.Atom.TheVariants as AtomVariants;
-ghost use Rattle.wiring.specs.declared.right.Right.TheVariants as RightVariants;
+ghost use Rattle.wiring.specs.declared.right.Atom.TheVariants.{Net};
+ghost use Rattle.wiring.specs.declared.right.Right.TheVariants.{Copy, Join};
 ghost use Rattle.batch_rows.specs.Seen.{AreMarked, GoesOn, IsOrderedUpTo};
 
 use crate::code::Instruction;
@@ -13,7 +13,7 @@ use wiring::{Atom, Right};
 
 // Whether there was a place for the mark.
 fn mark(seen: &mut [bool], slot: usize) -> bool
-    ensures { AreMarked seen.old seen.new result (RightVariants.Copy (AtomVariants.Net slot)) }
+    ensures { AreMarked seen.old seen.new result (Copy (Net slot)) }
 {
     if slot < seen.len() {
         seen[slot] = true;
@@ -24,7 +24,7 @@ fn mark(seen: &mut [bool], slot: usize) -> bool
 }
 
 fn mark_atom(seen: &mut [bool], a: &Atom<usize>) -> bool
-    ensures { AreMarked seen.old seen.new result (RightVariants.Copy a.now) }
+    ensures { AreMarked seen.old seen.new result (Copy a.now) }
 {
     match a {
         Atom::Net(n) => mark(seen, *n),
@@ -33,7 +33,7 @@ fn mark_atom(seen: &mut [bool], a: &Atom<usize>) -> bool
 }
 
 fn mark_two(seen: &mut [bool], a: &Atom<usize>, b: &Atom<usize>) -> bool
-    ensures { AreMarked seen.old seen.new result (RightVariants.Join a.now b.now) }
+    ensures { AreMarked seen.old seen.new result (Join a.now b.now) }
 {
     if !mark_atom(seen, a) {
         return false;

@@ -2,7 +2,7 @@
 
 ghost use Rattle.std.specs.Prelude.{◌≡◌, ℕ, ◌+◌, ◌-◌, ◌*◌, ◌/◌, ◌%◌, ◌^◌, ◌<◌, ◌≤◌, length, map, slice_index, bit_and, bit_or, bit_xor, if◌then◌else◌, ◌==◌, nat_lt, IfSome};
 ghost use Rattle.wiring.specs.Rights.{operator_value};
-ghost use Rattle.batch_rows.specs.Rows.{number_in, IsWritten, AreTwoRows};
+ghost use Rattle.batch_rows.specs.Rows.{number_in, IsSingleOf, IsPairOf, CanJoin, AreTwoRows};
 
 use crate::singles::{Single, Whole, mask_of, single_row};
 use lane_rows::Lane;
@@ -18,7 +18,7 @@ trait Pair<L: Lane> {
 
 fn pair_row<L: Lane, P: Pair<L>>(pair: &P, to: &mut [L], a: &[L], b: &[L])
     requires { AreTwoRows (length to.old) a.now b.now }
-    ensures { IsWritten L.value to.old to.new (λ t. P.value pair.now (number_in L.value a.now t) (number_in L.value b.now t)) }
+    ensures { IsPairOf L.value (P.value pair.now) to.old to.new a.now b.now }
 {
     for t in 0..to.len() {
         to[t] = pair.of(a[t], b[t]);
@@ -191,7 +191,7 @@ impl<L: Lane, P: Pair<L> + Copy> Single<L> for With<P, L> {
 // A row with a number, clock by clock.
 fn with_number<L: Lane, P: Pair<L> + Copy>(pair: P, second: L, to: &mut [L], a: &[L])
     requires { length a.now ≡ length to.old }
-    ensures { IsWritten L.value to.old to.new (λ t. P.value pair (number_in L.value a.now t) (L.value second)) }
+    ensures { IsSingleOf L.value (λ x. P.value pair x (L.value second)) to.old to.new a.now }
 {
     single_row(&With { pair, second }, to, a);
 }
@@ -199,10 +199,9 @@ fn with_number<L: Lane, P: Pair<L> + Copy>(pair: P, second: L, to: &mut [L], a: 
 // A row above another one of some bits.
 #[tactic(auto, using(crate::proofs::Masks::above_is, crate::proofs::Masks::alone_is))]
 pub fn join_row<L: Lane>(width: u8, to: &mut [L], a: &[L], b: &[L])
-    requires narrow { width ≤ L.bits }
     requires rows { AreTwoRows (length to.old) a.now b.now }
-    requires fits { (t : ℕ) → t < length to.old → number_in L.value a.now t * 2 ^ width + number_in L.value b.now t < 2 ^ L.bits }
-    ensures { IsWritten L.value to.old to.new (λ t. number_in L.value a.now t * 2 ^ width + number_in L.value b.now t) }
+    requires can { CanJoin L.bits width (length to.old) (number_in L.value a.now) (number_in L.value b.now) }
+    ensures { IsPairOf L.value (λ x y. x * 2 ^ width + y) to.old to.new a.now b.now }
 {
     if width < L::bits() {
         pair_row(&Above { width }, to, a, b);
@@ -214,10 +213,9 @@ pub fn join_row<L: Lane>(width: u8, to: &mut [L], a: &[L], b: &[L])
 // A number above each one of a row of some bits.
 #[tactic(auto, using(crate::proofs::Masks::above_is, crate::proofs::Masks::alone_is))]
 pub(crate) fn join_number_row<L: Lane>(width: u8, to: &mut [L], number: L, b: &[L])
-    requires narrow { width ≤ L.bits }
     requires b { length b.now ≡ length to.old }
-    requires fits { (t : ℕ) → t < length to.old → L.value number * 2 ^ width + number_in L.value b.now t < 2 ^ L.bits }
-    ensures { IsWritten L.value to.old to.new (λ t. L.value number * 2 ^ width + number_in L.value b.now t) }
+    requires can { CanJoin L.bits width (length to.old) (λ _. L.value number) (number_in L.value b.now) }
+    ensures { IsSingleOf L.value (λ y. L.value number * 2 ^ width + y) to.old to.new b.now }
 {
     if width < L::bits() {
         single_row(&Under { number, width }, to, b);
@@ -260,7 +258,7 @@ fn power_of(number: u64) -> Option<u8>
 #[tactic(auto, using(crate::proofs::Masks::shifted_quotient))]
 fn divide_row<L: Lane>(to: &mut [L], a: &[L], divisor: L)
     requires { length a.now ≡ length to.old }
-    ensures { IsWritten L.value to.old to.new (λ t. number_in L.value a.now t / L.value divisor) }
+    ensures { IsSingleOf L.value (λ x. x / L.value divisor) to.old to.new a.now }
 {
     match power_of(divisor.word()) {
         Some(by) => single_row(&Shifted { by }, to, a),
@@ -278,7 +276,7 @@ pub(crate) fn operator_number_row<L: Lane>(
 )
     requires narrow { width ≤ L.bits }
     requires a { length a.now ≡ length to.old }
-    ensures { IsWritten L.value to.old to.new (λ t. operator_value op width (number_in L.value a.now t) (L.value second)) }
+    ensures { IsSingleOf L.value (λ x. operator_value op width x (L.value second)) to.old to.new a.now }
 {
     let mask = mask_of(width);
     match op {
@@ -298,7 +296,7 @@ pub(crate) fn operator_number_row<L: Lane>(
 pub fn operator_row<L: Lane>(op: Operator, width: u8, to: &mut [L], a: &[L], b: &[L])
     requires narrow { width ≤ L.bits }
     requires rows { AreTwoRows (length to.old) a.now b.now }
-    ensures { IsWritten L.value to.old to.new (λ t. operator_value op width (number_in L.value a.now t) (number_in L.value b.now t)) }
+    ensures { IsPairOf L.value (operator_value op width) to.old to.new a.now b.now }
 {
     let mask = mask_of(width);
     match op {

@@ -2,11 +2,11 @@
 
 ghost use Rattle.std.specs.Prelude.{◌≡◌, ℕ, ◌+◌, ◌-◌, ◌*◌, ◌/◌, ◌%◌, ◌^◌, ◌<◌, ◌≤◌, [], length, map, IfOk, IfSome, IfNone, slice_index, slice_index_or};
 ghost use Rattle.wiring.specs.Rights.{atom_width};
-ghost use Rattle.wiring.specs.declared.right.Atom.TheVariants as AtomVariants;
-ghost use Rattle.wiring.specs.declared.right.Right.TheVariants as RightVariants;
+ghost use Rattle.wiring.specs.declared.right.Atom.TheVariants.{Net, Constant as Fixed};
+ghost use Rattle.wiring.specs.declared.right.Right.TheVariants.{Copy, Not, Binary, Choose, Join, Repeat, Bit, Slice};
 ghost use Rattle.lane_rows.specs.Values.{value_at, numbers_in, row_values, values_of};
-ghost use Rattle.batch_rows.specs.Rows.{number_in, IsWritten};
-ghost use Rattle.batch_rows.specs.Rights.{HasRow, IsOperand, IsAtomRow, HaveRoom, IsWidthOf, IsRowOf, CanRead, CanMake, IsMade, CanChoose, IsChosen};
+ghost use Rattle.batch_rows.specs.Rows.{IsWritten};
+ghost use Rattle.batch_rows.specs.Rights.{HasRow, IsOperand, IsAtomRow, HaveRoom, IsWidthOf, IsRowOf, CanRead, IsRowOfOperand, IsFilled, CanReadOperand, CanMake, IsMade, CanChoose, IsChosen};
 
 use crate::choices::{choose_number_row, choose_or_number_row, choose_row};
 use crate::pairs::{join_number_row, join_row, operator_number_row, operator_row};
@@ -147,7 +147,7 @@ pub fn note_words(
     requires a { HasRow (values_of rows.now) count a.now }
     requires room { count ≤ length spare.old.items }
     ensures spare { length spare.new.items ≡ length spare.old.items }
-    ensures own { IfSome result (λ n. a.now ≡ AtomVariants.Net n) }
+    ensures own { IfSome result (λ n. a.now ≡ Net n) }
     ensures filled { IfNone result (IsAtomRow (values_of rows.now) a.now count spare.new.items) }
 {
     if own {
@@ -169,7 +169,7 @@ pub fn atom_numbers<'a>(
 ) -> Numbers<'a>
     requires a { HasRow (values_of rows.now) count a.now }
     requires room { count ≤ length spare.now }
-    requires own { IfSome own (λ n. a.now ≡ AtomVariants.Net n) }
+    requires own { IfSome own (λ n. a.now ≡ Net n) }
     requires filled { IfNone own (IsAtomRow (values_of rows.now) a.now count spare.now) }
     ensures count { length (numbers_in result) ≡ count }
     ensures row { IsAtomRow (values_of rows.now) a.now count (numbers_in result) }
@@ -186,10 +186,10 @@ pub fn atom_numbers<'a>(
 /// Where an atom has no row in this lane, a spare row becomes its row.
 #[tactic(auto, using(lane_rows::proofs::LaneRows::first_part))]
 pub fn note_atom<'a, L: Lane>(operand: &Operand<'a>, spare: &mut [L]) -> Option<&'a [L]>
-    requires { CanRead L.bits (values_of operand.now.rows.now) operand.now.count (length spare.old) operand.now.atom.now }
+    requires { CanReadOperand L.bits operand.now (length spare.old) }
     ensures spare { length spare.new ≡ length spare.old }
-    ensures own { IfSome result (λ r. IsRowOf L.value (values_of operand.now.rows.now) operand.now.atom.now operand.now.count r.now) }
-    ensures filled { IfNone result (IsAtomRow (values_of operand.now.rows.now) operand.now.atom.now operand.now.count (map L.value spare.new)) }
+    ensures own { IfSome result (λ r. IsRowOfOperand L.value operand.now r.now) }
+    ensures filled { IfNone result (IsFilled L.value operand.now spare.new) }
 {
     match own_row(operand.rows, operand.atom, operand.count) {
         Some(row) => Some(row),
@@ -207,9 +207,9 @@ pub fn note_atom<'a, L: Lane>(operand: &Operand<'a>, spare: &mut [L]) -> Option<
 /// The row of an atom: its own one, or the spare row.
 pub fn atom_row<'a, L: Lane>(operand: &Operand<'_>, own: Option<&'a [L]>, spare: &'a [L]) -> &'a [L]
     requires room { operand.now.count ≤ length spare.now }
-    requires own { IfSome own (λ r. IsRowOf L.value (values_of operand.now.rows.now) operand.now.atom.now operand.now.count r.now) }
-    requires filled { IfNone own (IsAtomRow (values_of operand.now.rows.now) operand.now.atom.now operand.now.count (map L.value spare.now)) }
-    ensures { IsRowOf L.value (values_of operand.now.rows.now) operand.now.atom.now operand.now.count result.now }
+    requires own { IfSome own (λ r. IsRowOfOperand L.value operand.now r.now) }
+    requires filled { IfNone own (IsFilled L.value operand.now spare.now) }
+    ensures { IsRowOfOperand L.value operand.now result.now }
 {
     match own {
         Some(row) => row,
@@ -219,8 +219,8 @@ pub fn atom_row<'a, L: Lane>(operand: &Operand<'_>, own: Option<&'a [L]>, spare:
 
 // The atom itself.
 fn copy_row<L: Lane>(slots: &Slots<'_>, spares: &mut Spares<L>, a: &Atom<usize>, to: &mut [L])
-    requires { CanMake L.bits slots.now spares.old (length to.old) (RightVariants.Copy a.now) }
-    ensures { IsMade L.value slots.now (RightVariants.Copy a.now) spares.old spares.new to.old to.new }
+    requires { CanMake L.bits slots.now spares.old to.old (Copy a.now) }
+    ensures { IsMade L.value slots.now (Copy a.now) spares.old spares.new to.old to.new }
 {
     let operand = Operand {
         rows: slots.rows,
@@ -234,8 +234,8 @@ fn copy_row<L: Lane>(slots: &Slots<'_>, spares: &mut Spares<L>, a: &Atom<usize>,
 
 // All bits of an atom turned.
 fn not_row<L: Lane>(slots: &Slots<'_>, spares: &mut Spares<L>, a: &Atom<usize>, to: &mut [L])
-    requires { CanMake L.bits slots.now spares.old (length to.old) (RightVariants.Not a.now) }
-    ensures { IsMade L.value slots.now (RightVariants.Not a.now) spares.old spares.new to.old to.new }
+    requires { CanMake L.bits slots.now spares.old to.old (Not a.now) }
+    ensures { IsMade L.value slots.now (Not a.now) spares.old spares.new to.old to.new }
 {
     let mask = mask_of(width_of(slots.widths, a));
     let operand = Operand {
@@ -257,8 +257,8 @@ fn binary_number_row<L: Lane>(
     number: Constant,
     to: &mut [L],
 )
-    requires { CanMake L.bits slots.now spares.old (length to.old) (RightVariants.Binary op a.now (AtomVariants.Constant number)) }
-    ensures { IsMade L.value slots.now (RightVariants.Binary op a.now (AtomVariants.Constant number)) spares.old spares.new to.old to.new }
+    requires { CanMake L.bits slots.now spares.old to.old (Binary op a.now (Fixed number)) }
+    ensures { IsMade L.value slots.now (Binary op a.now (Fixed number)) spares.old spares.new to.old to.new }
 {
     let width = width_of(slots.widths, a);
     let operand = Operand {
@@ -280,8 +280,8 @@ fn binary_row<L: Lane>(
     b: &Atom<usize>,
     to: &mut [L],
 )
-    requires { CanMake L.bits slots.now spares.old (length to.old) (RightVariants.Binary op a.now b.now) }
-    ensures { IsMade L.value slots.now (RightVariants.Binary op a.now b.now) spares.old spares.new to.old to.new }
+    requires { CanMake L.bits slots.now spares.old to.old (Binary op a.now b.now) }
+    ensures { IsMade L.value slots.now (Binary op a.now b.now) spares.old spares.new to.old to.new }
 {
     if let Atom::Constant(number) = b {
         return binary_number_row(slots, spares, op, a, *number, to);
@@ -314,10 +314,10 @@ fn number_or_row<L: Lane, B: Lane>(
     b: &Atom<usize>,
     to: &mut [L],
 )
-    requires choice { CanChoose L.bits (values_of rows.now) (length to.old) (length bit.now) (AtomVariants.Constant number) b.now }
+    requires choice { CanChoose L.bits (values_of rows.now) to.old bit.now (Fixed number) b.now }
     requires room { length to.old ≤ length spare.old }
     ensures spare { length spare.new ≡ length spare.old }
-    ensures row { IsChosen L.value (values_of rows.now) (number_in B.value bit.now) (AtomVariants.Constant number) b.now to.old to.new }
+    ensures row { IsChosen L.value B.value (values_of rows.now) bit.now (Fixed number) b.now to.old to.new }
 {
     let operand = Operand {
         rows,
@@ -338,10 +338,10 @@ fn row_or_number<L: Lane, B: Lane>(
     number: Constant,
     to: &mut [L],
 )
-    requires choice { CanChoose L.bits (values_of rows.now) (length to.old) (length bit.now) a.now (AtomVariants.Constant number) }
+    requires choice { CanChoose L.bits (values_of rows.now) to.old bit.now a.now (Fixed number) }
     requires room { length to.old ≤ length spare.old }
     ensures spare { length spare.new ≡ length spare.old }
-    ensures row { IsChosen L.value (values_of rows.now) (number_in B.value bit.now) a.now (AtomVariants.Constant number) to.old to.new }
+    ensures row { IsChosen L.value B.value (values_of rows.now) bit.now a.now (Fixed number) to.old to.new }
 {
     let operand = Operand {
         rows,
@@ -369,12 +369,12 @@ fn chosen_by<L: Lane, B: Lane>(
     branches: &Branches<'_>,
     to: &mut [L],
 )
-    requires choice { CanChoose L.bits (values_of rows.now) (length to.old) (length bit.now) branches.now.on.now branches.now.off.now }
+    requires choice { CanChoose L.bits (values_of rows.now) to.old bit.now branches.now.on.now branches.now.off.now }
     requires first { length to.old ≤ length first.old }
     requires second { length to.old ≤ length second.old }
     ensures first { length first.new ≡ length first.old }
     ensures second { length second.new ≡ length second.old }
-    ensures row { IsChosen L.value (values_of rows.now) (number_in B.value bit.now) branches.now.on.now branches.now.off.now to.old to.new }
+    ensures row { IsChosen L.value B.value (values_of rows.now) bit.now branches.now.on.now branches.now.off.now to.old to.new }
 {
     let a = branches.on;
     let b = branches.off;
@@ -419,8 +419,8 @@ fn chosen_row<L: Lane>(
     b: &Atom<usize>,
     to: &mut [L],
 )
-    requires { CanMake L.bits slots.now spares.old (length to.old) (RightVariants.Choose c.now a.now b.now) }
-    ensures { IsMade L.value slots.now (RightVariants.Choose c.now a.now b.now) spares.old spares.new to.old to.new }
+    requires { CanMake L.bits slots.now spares.old to.old (Choose c.now a.now b.now) }
+    ensures { IsMade L.value slots.now (Choose c.now a.now b.now) spares.old spares.new to.old to.new }
 {
     let rows = slots.rows;
     let count = to.len();
@@ -455,7 +455,7 @@ fn chosen_row<L: Lane>(
 // This many bits of a slot, from a place on.
 #[tactic(auto, using(crate::proofs::Masks::part_is))]
 fn part_row<L: Lane>(rows: &[Row], spare: &mut [L], slot: usize, from: u8, width: u8, to: &mut [L])
-    requires slot { CanRead L.bits (values_of rows.now) (length to.old) (length spare.old) (AtomVariants.Net slot) }
+    requires slot { CanRead L.bits (values_of rows.now) (length to.old) (length spare.old) (Net slot) }
     requires from { from < L.bits }
     requires narrow { width ≤ L.bits }
     ensures spare { length spare.new ≡ length spare.old }
@@ -481,8 +481,8 @@ fn number_above_row<L: Lane>(
     b: &Atom<usize>,
     to: &mut [L],
 )
-    requires { CanMake L.bits slots.now spares.old (length to.old) (RightVariants.Join (AtomVariants.Constant number) b.now) }
-    ensures { IsMade L.value slots.now (RightVariants.Join (AtomVariants.Constant number) b.now) spares.old spares.new to.old to.new }
+    requires { CanMake L.bits slots.now spares.old to.old (Join (Fixed number) b.now) }
+    ensures { IsMade L.value slots.now (Join (Fixed number) b.now) spares.old spares.new to.old to.new }
 {
     let width = width_of(slots.widths, b);
     let operand = Operand {
@@ -503,8 +503,8 @@ fn joined_row<L: Lane>(
     b: &Atom<usize>,
     to: &mut [L],
 )
-    requires { CanMake L.bits slots.now spares.old (length to.old) (RightVariants.Join a.now b.now) }
-    ensures { IsMade L.value slots.now (RightVariants.Join a.now b.now) spares.old spares.new to.old to.new }
+    requires { CanMake L.bits slots.now spares.old to.old (Join a.now b.now) }
+    ensures { IsMade L.value slots.now (Join a.now b.now) spares.old spares.new to.old to.new }
 {
     if let Atom::Constant(number) = a {
         return number_above_row(slots, spares, *number, b, to);
@@ -536,8 +536,8 @@ fn repeated_row<L: Lane>(
     a: &Atom<usize>,
     to: &mut [L],
 )
-    requires { CanMake L.bits slots.now spares.old (length to.old) (RightVariants.Repeat copies a.now) }
-    ensures { IsMade L.value slots.now (RightVariants.Repeat copies a.now) spares.old spares.new to.old to.new }
+    requires { CanMake L.bits slots.now spares.old to.old (Repeat copies a.now) }
+    ensures { IsMade L.value slots.now (Repeat copies a.now) spares.old spares.new to.old to.new }
 {
     let width = width_of(slots.widths, a);
     let operand = Operand {
@@ -558,8 +558,8 @@ fn bit_row<L: Lane>(
     place: u64,
     to: &mut [L],
 )
-    requires { CanMake L.bits slots.now spares.old (length to.old) (RightVariants.Bit slot place) }
-    ensures { IsMade L.value slots.now (RightVariants.Bit slot place) spares.old spares.new to.old to.new }
+    requires { CanMake L.bits slots.now spares.old to.old (Bit slot place) }
+    ensures { IsMade L.value slots.now (Bit slot place) spares.old spares.new to.old to.new }
 {
     let _most = slot_width(slots.widths, slot);
     part_row(slots.rows, &mut spares.first, slot, place as u8, 1, to);
@@ -574,8 +574,8 @@ fn slice_row<L: Lane>(
     low: u64,
     to: &mut [L],
 )
-    requires { CanMake L.bits slots.now spares.old (length to.old) (RightVariants.Slice slot high low) }
-    ensures { IsMade L.value slots.now (RightVariants.Slice slot high low) spares.old spares.new to.old to.new }
+    requires { CanMake L.bits slots.now spares.old to.old (Slice slot high low) }
+    ensures { IsMade L.value slots.now (Slice slot high low) spares.old spares.new to.old to.new }
 {
     let _most = slot_width(slots.widths, slot);
     part_row(
@@ -595,7 +595,7 @@ pub fn right_row<L: Lane>(
     right: &Right<usize, usize>,
     to: &mut [L],
 )
-    requires { CanMake L.bits slots.now spares.old (length to.old) right.now }
+    requires { CanMake L.bits slots.now spares.old to.old right.now }
     ensures { IsMade L.value slots.now right.now spares.old spares.new to.old to.new }
 {
     match right {

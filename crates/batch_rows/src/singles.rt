@@ -2,7 +2,7 @@
 
 ghost use Rattle.std.specs.Prelude.{◌≡◌, ℕ, ◌+◌, ◌-◌, ◌*◌, ◌/◌, ◌%◌, ◌^◌, ◌<◌, ◌≤◌, length, map, slice_index, bit_and, if◌then◌else◌, ◌==◌};
 ghost use Rattle.wiring.specs.Rights.{repeated};
-ghost use Rattle.batch_rows.specs.Rows.{number_in, IsWritten};
+ghost use Rattle.batch_rows.specs.Rows.{number_in, IsWritten, IsSingleOf};
 
 use lane_rows::Lane;
 use wiring::limit;
@@ -17,7 +17,7 @@ pub(crate) trait Single<L: Lane> {
 
 pub(crate) fn single_row<L: Lane, S: Single<L>>(single: &S, to: &mut [L], a: &[L])
     requires { length a.now ≡ length to.old }
-    ensures { IsWritten L.value to.old to.new (λ t. S.value single.now (number_in L.value a.now t)) }
+    ensures { IsSingleOf L.value (S.value single.now) to.old to.new a.now }
 {
     for t in 0..to.len() {
         to[t] = single.of(a[t]);
@@ -130,7 +130,7 @@ pub(crate) fn repeat_row<L: Lane>(copies: u8, width: u8, to: &mut [L], a: &[L])
     requires narrow { width ≤ 64 }
     requires a { length a.now ≡ length to.old }
     requires fits { (t : ℕ) → t < length to.old → repeated copies width (number_in L.value a.now t) < 2 ^ L.bits }
-    ensures { IsWritten L.value to.old to.new (λ t. repeated copies width (number_in L.value a.now t)) }
+    ensures { IsSingleOf L.value (repeated copies width) to.old to.new a.now }
 {
     let _bits = L::bits();
     let factor = L::cut(factor(copies, width));

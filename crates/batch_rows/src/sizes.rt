@@ -1,8 +1,8 @@
 // Lanes for slots and for instructions.
 
 ghost use Rattle.std.specs.Prelude.{◌≡◌, ℕ, ◌+◌, ◌<◌, ◌≤◌, length, replicate, slice_index, IfOk};
-ghost use Rattle.wiring.specs.declared.right.Atom.TheVariants as AtomVariants;
-ghost use Rattle.wiring.specs.declared.right.Right.TheVariants as RightVariants;
+ghost use Rattle.wiring.specs.declared.right.Atom.TheVariants.{Net};
+ghost use Rattle.wiring.specs.declared.right.Right.TheVariants.{Copy, Choose, Join};
 ghost use Rattle.batch_rows.specs.LaneSizes.{IsWider, IsSized, AreSized};
 ghost use Rattle.lane_rows.specs.Values.{bits_of, row_bits, row_values};
 
@@ -15,21 +15,21 @@ use wiring::{Atom, Right, Width};
 // The wider one of a width and an atom.
 fn wider(widths: &[Width], a: &Atom<usize>, width: u8) -> u8
     requires { width ≤ 64 }
-    ensures { IsWider widths.now width result (RightVariants.Copy a.now) }
+    ensures { IsWider widths.now width result (Copy a.now) }
 {
     width_of(widths, a).max(width)
 }
 
 fn wider_slot(widths: &[Width], slot: usize, width: u8) -> u8
     requires { width ≤ 64 }
-    ensures { IsWider widths.now width result (RightVariants.Copy (AtomVariants.Net slot)) }
+    ensures { IsWider widths.now width result (Copy (Net slot)) }
 {
     slot_width(widths, slot).max(width)
 }
 
 fn wider_two(widths: &[Width], a: &Atom<usize>, b: &Atom<usize>, width: u8) -> u8
     requires { width ≤ 64 }
-    ensures { IsWider widths.now width result (RightVariants.Join a.now b.now) }
+    ensures { IsWider widths.now width result (Join a.now b.now) }
 {
     let both = wider(widths, a, width);
     wider(widths, b, both)
@@ -37,7 +37,7 @@ fn wider_two(widths: &[Width], a: &Atom<usize>, b: &Atom<usize>, width: u8) -> u
 
 fn wider_three(widths: &[Width], a: &Atom<usize>, b: &Atom<usize>, c: &Atom<usize>, width: u8) -> u8
     requires { width ≤ 64 }
-    ensures { IsWider widths.now width result (RightVariants.Choose a.now b.now c.now) }
+    ensures { IsWider widths.now width result (Choose a.now b.now c.now) }
 {
     let two = wider_two(widths, a, b, width);
     wider(widths, c, two)

@@ -1,8 +1,8 @@
 // The first instruction that reads or writes each slot.
 
 ghost use Rattle.std.specs.Prelude.{◌≤◌, ◌≡◌, length, IfOk, slice_index};
-ghost use Rattle.wiring.specs.declared.right.Atom.TheVariants as AtomVariants;
-ghost use Rattle.wiring.specs.declared.right.Right.TheVariants as RightVariants;
+ghost use Rattle.wiring.specs.declared.right.Atom.TheVariants.{Net};
+ghost use Rattle.wiring.specs.declared.right.Right.TheVariants.{Copy, Choose, Join};
 ghost use Rattle.batch_rows.specs.Uses.{AreNoted, AreFirstUses};
 
 use crate::code::Instruction;
@@ -11,7 +11,7 @@ use wiring::{Atom, Right};
 
 // A use of a slot by the instruction of this number.
 fn note_slot(uses: &mut [usize], slot: usize, number: usize)
-    ensures { AreNoted uses.old uses.new number (RightVariants.Copy (AtomVariants.Net slot)) }
+    ensures { AreNoted uses.old uses.new number (Copy (Net slot)) }
 {
     if slot < uses.len() {
         uses[slot] = uses[slot].min(number);
@@ -19,7 +19,7 @@ fn note_slot(uses: &mut [usize], slot: usize, number: usize)
 }
 
 fn note_atom(uses: &mut [usize], a: &Atom<usize>, number: usize)
-    ensures { AreNoted uses.old uses.new number (RightVariants.Copy a.now) }
+    ensures { AreNoted uses.old uses.new number (Copy a.now) }
 {
     match a {
         Atom::Net(n) => note_slot(uses, *n, number),
@@ -28,14 +28,14 @@ fn note_atom(uses: &mut [usize], a: &Atom<usize>, number: usize)
 }
 
 fn note_two(uses: &mut [usize], a: &Atom<usize>, b: &Atom<usize>, number: usize)
-    ensures { AreNoted uses.old uses.new number (RightVariants.Join a.now b.now) }
+    ensures { AreNoted uses.old uses.new number (Join a.now b.now) }
 {
     note_atom(uses, a, number);
     note_atom(uses, b, number);
 }
 
 fn note_three(uses: &mut [usize], a: &Atom<usize>, b: &Atom<usize>, c: &Atom<usize>, number: usize)
-    ensures { AreNoted uses.old uses.new number (RightVariants.Choose a.now b.now c.now) }
+    ensures { AreNoted uses.old uses.new number (Choose a.now b.now c.now) }
 {
     note_atom(uses, a, number);
     note_two(uses, b, c, number);

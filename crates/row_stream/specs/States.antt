@@ -1,6 +1,7 @@
 -- The state of a stream between two calls.
 use Rattle.std.specs.Prelude.{◌≡◌, ℕ, ◌+◌, ◌-◌, ◌*◌, ◌^◌, ◌<◌, ◌≤◌, List, [], ◌∷◌, length, take}
 use Rattle.dk_base.specs.declared.TheConstants.{MAX_PORT_WIDTH}
+use Rattle.dk_base.specs.FrameSizes.{size_of}
 use Rattle.dk_desk.specs.declared.Stage.TheVariants.{Open}
 use Rattle.dk_desk.specs.Outside.{Outside}
 use Rattle.wiring.specs.Netlist.{Netlist}
@@ -16,6 +17,7 @@ use Rattle.row_stream.specs.Lines.{Kind}
 use Rattle.row_stream.specs.Formats.{kind_of}
 use Rattle.row_stream.specs.Standing.{HasRoom, IsOneToOne, Lasts}
 use Rattle.row_stream.specs.Batches.{HasBatch}
+use Rattle.row_stream.specs.Heads.{FitsHeader}
 use Rattle.row_stream.specs.Progress.{Goes, Fails, pixel_clocks}
 use Rattle.row_stream.specs.RowReading.{samples_in}
 
@@ -54,6 +56,13 @@ pub record IsReady (s : Stream) (o : Outside) : Type 0 where
   pub stream : IsStream s
   pub created : o.file.stage ≡ Open
   pub lasts : Lasts s.sim.netlist s.sim.contents
+
+-- The lines of an image with this header can be read and clocked. Fewer lines than `most` were made so far.
+pub record CanStream (most : ℕ) (s : Stream) (next : Header) (o : Outside) : Type 0 where
+  pub opened : o.image.stage ≡ Open
+  pub ready : IsReady s o
+  pub few : s.line.rows < most
+  pub header : FitsHeader (size_of s.format.size) s.bits next
 
 -- What every call keeps, also one that fails.
 pub record Keeps (old new : Stream) : Type 0 where

@@ -20,7 +20,7 @@ run_instruction-requires-clause-one c =
     record {
       sound = All-at (IsSound c.args.code.now.widths.now) code k i c.requires.code.sound at;
       sized = c.requires.code.sized.each k i (slice_index_or sizes k Narrow) at (slice_get-get_or sizes k Narrow (omega (arith, inside, c.requires.code.sized.count)));
-      rows = c.loop-k.invariant.rows.ran.rows;
+      rows = c.loop-k.invariant.run.ran.rows;
     }
 
 pub loop-k-preserved : goal.loop-k-preserved
@@ -37,19 +37,19 @@ loop-k-preserved c =
     let old = values_of before in
     let new = values_of after in
     let row = slice_index_or new i.target [] in
-    let ran = c.loop-k.invariant.rows.ran in
-    let put = c.run_instruction.ensures.rows in
+    let ran = c.loop-k.invariant.run.ran in
+    let put = c.run_instruction.ensures.put in
     let size : length new ≡ length old = length-map after row_values ∙ put.count ∙ sym (length-map before row_values) in
     record {
       rooms = c.run_instruction.ensures.rooms;
-      rows = record {
-        bits = put.bits ∙ c.loop-k.invariant.rows.bits;
-        count = put.count ∙ c.loop-k.invariant.rows.count;
+      run = record {
+        bits = put.bits ∙ c.loop-k.invariant.run.bits;
+        count = put.count ∙ c.loop-k.invariant.run.count;
         ran = record {
           rows = rows_on widths count old ran.rows new i sound size row put.long refl put.others put.row;
           lanes = lanes_on widths before after put.count put.bits ran.lanes;
           hold = hold_on widths count old ran.rows new i sound size row put.long refl put.others put.row code k c.requires.code.ordered at ran.hold;
         };
-        others = λ n none. put.others n (none k i at) ∙ c.loop-k.invariant.rows.others n none;
+        others = λ n none. put.others n (none k i at) ∙ c.loop-k.invariant.run.others n none;
       };
     }

@@ -5,5 +5,5 @@ use Rattle.batch_rows.proofs.code.run_code.Given as goal
 abbrev pub invariant-loop-k : goal.invariant-loop-k
 invariant-loop-k l = record {
   rooms : HaveRooms l.rooms l.count;
-  rows : RowsAreRun l.widths l.instructions l.count l.fn.rows l.rows l.k;
+  run : RowsAreRun l.widths l.instructions l.count l.fn.rows l.rows l.k;
 }

@@ -8,4 +8,4 @@ returns-else-width-bits g c =
     let value = g.L.Lane.value in
     let wide : g.L.Lane.bits ≤ c.args.width = omega (arith, c.if-width-bits.false, c.bits.ensures.bits) in
     let same : length c.pair_row-else-width-bits.new.to ≡ length c.args.to.now = c.pair_row-else-width-bits.ensures.count in
-    record { count = same; each = λ t l. c.pair_row-else-width-bits.ensures.each t l ∙ alone_is (slice_index (map value c.args.a.now) t) (slice_index (map value c.args.b.now) t) c.args.width g.L.Lane.bits c.requires.narrow wide (c.requires.fits t (omega (arith, l, same))) }
+    record { count = same; each = λ t l. c.pair_row-else-width-bits.ensures.each t l ∙ alone_is (slice_index (map value c.args.a.now) t) (slice_index (map value c.args.b.now) t) c.args.width g.L.Lane.bits c.requires.can.narrow wide (c.requires.can.fits t (omega (arith, l, same))) }

@@ -13,8 +13,15 @@ use Rattle.row_stream.proofs.state.Stream.clock_batch.Goals as goal
 pub step-requires-clause-room : goal.step-requires-clause-room
 step-requires-clause-room g c = (c.args.self.now.format.size.width, c.requires.ready.stream.batch, c.requires.count)
 
-pub step-requires-clause-one_din : goal.step-requires-clause-one_din
-step-requires-clause-one_din g c = one_din (din_widths c.args.self.now.sim.netlist) 0 (c.requires.ready.stream.fit 0 (omega arith))
+pub step-requires-clause-can : goal.step-requires-clause-can
+step-requires-clause-can g c =
+    let ready = c.requires.ready in
+    record {
+      outputs = ready.stream.one.one;
+      one_din = one_din (din_widths c.args.self.now.sim.netlist) 0 (ready.stream.fit 0 (omega arith));
+      fit = c.requires.fit;
+      lasts = ready.lasts;
+    }
 
 pub shown-outs-requires : goal.shown-outs-requires
 shown-outs-requires g c =
