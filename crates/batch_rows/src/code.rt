@@ -12,14 +12,14 @@ use std::alloc::{AllocError, Global};
 use wiring::{Right, Width};
 
 /// A slot that takes the value of a right side over slots.
-#[derive(Clone, Copy, Debug)]
+#[derive(Clone, Copy)]
 pub struct Instruction {
     pub target: usize,
     pub right: Right<usize, usize>,
 }
 
 /// Room for the instructions that are run in a lane: a row for what one makes, and spare rows for its operands.
-#[derive(Debug, Drop)]
+#[derive(Drop)]
 pub struct Scratch<L> {
     pub(crate) to: Vec<L>,
     pub(crate) spares: Spares<L>,
@@ -37,7 +37,7 @@ impl<L: Lane> Scratch<L> {
 }
 
 /// That of all lanes.
-#[derive(Debug, Drop)]
+#[derive(Drop)]
 pub struct Rooms {
     pub(crate) narrow: Scratch<u16>,
     pub(crate) middle: Scratch<u32>,

@@ -31,7 +31,7 @@ pub struct Operand<'a> {
 }
 
 /// Room for the rows of the operands of a right side that are in no row of this lane: constants, and slots of other lanes.
-#[derive(Debug, Drop)]
+#[derive(Drop)]
 pub struct Spares<L> {
     pub(crate) first: Vec<L>,
     pub(crate) second: Vec<L>,
