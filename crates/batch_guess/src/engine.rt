@@ -2,8 +2,6 @@
 
 ghost use Rattle.std.specs.Prelude.{◌≡◌, IfOk};
 ghost use Rattle.batch_rows.specs.Code.{AreSound, IsOrdered};
-ghost use Rattle.batch_rows.specs.LaneSizes.{AreSized};
-ghost use Rattle.batch_rows.specs.Uses.{AreFirstUses};
 ghost use Rattle.batch_guess.specs.Engine.{IsEngine};
 
 use crate::stored::Stored;
@@ -59,28 +57,6 @@ fn makers_of(alloc: Global, code: &BatchCode) -> Result<Vec<Option<usize>>, Allo
     Ok(makers)
 }
 
-// What is found in a code: the first use and the maker of each slot, and the lane of each instruction.
-#[derive(Drop)]
-struct Found {
-    uses: Vec<usize>,
-    sizes: Vec<Size>,
-    makers: Vec<Option<usize>>,
-}
-
-fn found_in(alloc: Global, code: &BatchCode) -> Result<Found, AllocError>
-    ensures uses { IfOk result (λ f. AreFirstUses code.now.instructions.items f.uses.items) }
-    ensures sizes { IfOk result (λ f. AreSized code.now.widths.items code.now.instructions.items f.sizes.items) }
-{
-    let uses = first_uses(alloc, code.widths.len(), &code.instructions)?;
-    let sizes = sizes_of(alloc, &code.widths, &code.instructions)?;
-    let makers = makers_of(alloc, code)?;
-    Ok(Found {
-        uses,
-        sizes,
-        makers,
-    })
-}
-
 impl Engine {
     /// The engine of a code and its plan, for a module with this many dins.
     pub fn new(
@@ -97,13 +73,15 @@ impl Engine {
         ensures enable { IfOk result (λ e. e.has_enable ≡ wiring.now.enable) }
         ensures ports { IfOk result (λ e. e.ports ≡ ports) }
     {
-        let found = found_in(alloc, &code)?;
+        let uses = first_uses(alloc, code.widths.len(), &code.instructions)?;
+        let sizes = sizes_of(alloc, &code.widths, &code.instructions)?;
+        let makers = makers_of(alloc, &code)?;
         Ok(Engine {
             code,
             plan,
-            uses: found.uses,
-            sizes: found.sizes,
-            makers: found.makers,
+            uses,
+            sizes,
+            makers,
             has_enable: wiring.enable,
             ports,
         })
