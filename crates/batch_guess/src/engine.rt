@@ -13,7 +13,7 @@ use std::alloc::{AllocError, Global};
 use wiring::{Atom, Right};
 
 /// The code of a module, with the plan after which its rows are filled. The plan is a proposal: nothing rests on it.
-#[derive(Debug, Drop)]
+#[derive(Drop)]
 pub struct Engine {
     pub code: BatchCode,
     pub plan: Plan,

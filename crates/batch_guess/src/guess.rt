@@ -20,7 +20,7 @@ use std::marker::Model;
 
 /// The rows of all slots of a module. They are guessed for a piece of a batch by the steps of a plan: rows of inputs, registers and
 /// array reads are proposed, and the instructions make all others. That the instructions hold is all that is known of them.
-#[derive(Debug, Drop)]
+#[derive(Drop)]
 pub struct RowGuess {
     pub(crate) engine: Engine,
     pub(crate) table: Table,
@@ -58,11 +58,11 @@ fn table_of(alloc: Global, engine: &Engine, long: usize) -> Result<Table, AllocE
     ensures table { IfOk result (λ t. HasRun engine.now (length t.room.items) t 0) }
     ensures long { IfOk result (λ t. length t.room.items ≡ long) }
 {
-    let rows = slot_rows(alloc, &engine.code.widths, long)?;
     let room = vec![in alloc; 0; long]?;
     let narrow = vec![in alloc; 0; long]?;
     let middle = vec![in alloc; 0; long]?;
     let rooms = Rooms::new(alloc, long)?;
+    let rows = slot_rows(alloc, &engine.code.widths, long)?;
     let table = Table {
         rows,
         room,
@@ -85,8 +85,8 @@ impl RowGuess {
         ensures engine { IfOk result (λ g. g.engine ≡ engine) }
         ensures long { IfOk result (λ g. g.long ≡ long) }
     {
-        let table = table_of(alloc, &engine, long)?;
         let hints = Hints::new(alloc, wiring, engine.plan.size, long)?;
+        let table = table_of(alloc, &engine, long)?;
         Ok(RowGuess {
             engine,
             table,

@@ -5,7 +5,7 @@ use netlist::Netlist;
 use std::alloc::{AllocError, Global};
 
 // How a register goes on: each value is one more than the one before.
-#[derive(Debug, Clone, Copy)]
+#[derive(Clone, Copy)]
 pub struct Habit {
     // For how many clocks it keeps a value: 1 for a counter of clocks, the clocks of a line for a counter of lines.
     pub stay: usize,
@@ -31,7 +31,7 @@ pub(crate) struct Change {
 
 // Copies of the words of arrays to which a batch comes back, how each register goes on, and how many clocks before each one of a
 // piece were no held ones.
-#[derive(Debug, Drop)]
+#[derive(Drop)]
 pub struct Hints {
     pub words: Vec<Vec<u64>>,
     pub habits: Vec<Habit>,

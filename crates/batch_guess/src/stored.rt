@@ -1,7 +1,7 @@
 // The contents of registers and arrays.
 
 /// What registers and arrays store.
-#[derive(Debug, Drop)]
+#[derive(Drop)]
 pub struct Stored {
     pub regs: Vec<u64>,
     pub arrays: Vec<Vec<u64>>,

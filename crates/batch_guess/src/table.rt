@@ -2,7 +2,7 @@
 
 ghost use Rattle.std.specs.Prelude.{◌≡◌, ◌≢◌, ℕ, ◌^◌, ◌<◌, ◌≤◌, [], length, map, slice_index, slice_index_or, IsTrue};
 ghost use Rattle.lane_rows.specs.Values.{value_at, row_bits, values_of, InLanes};
-ghost use Rattle.batch_rows.specs.Code.{CanRun};
+ghost use Rattle.batch_rows.specs.Code.{CanRun, IsStretch};
 ghost use Rattle.batch_rows.specs.Uses.{AreFirstUses};
 ghost use Rattle.batch_guess.specs.Table.{HaveSpares, IsTable};
 
@@ -11,7 +11,7 @@ use lane_rows::{Lane, Row, Size, lane_in, put_row, trim_row};
 use wiring::{Width, limit};
 
 // The rows of all slots, a spare row in each lane, and room for the instructions.
-#[derive(Debug, Drop)]
+#[derive(Drop)]
 pub struct Table {
     pub rows: Vec<Row>,
     pub room: Vec<u64>,
@@ -106,8 +106,7 @@ pub(crate) fn offer(
 // The instructions from one place up to another.
 fn run_between(code: &Code<'_>, table: &mut Table, done: usize, upto: usize)
     requires code { CanRun code.now.widths.now code.now.instructions.now code.now.sizes.now }
-    requires places { done ≤ upto }
-    requires within { upto ≤ length code.now.instructions.now }
+    requires places { IsStretch done upto (length code.now.instructions.now) }
     requires table { IsTable code.now.widths.now code.now.instructions.now (length table.old.room.items) table.old done }
     ensures room { length table.new.room.items ≡ length table.old.room.items }
     ensures table { IsTable code.now.widths.now code.now.instructions.now (length table.old.room.items) table.new upto }

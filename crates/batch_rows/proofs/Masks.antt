@@ -1,5 +1,5 @@
 -- Masks after operations that wrap.
-use Rattle.std.proofs.Common.{◌≡◌, ℕ, zero, suc, ◌/◌, ◌+◌, ◌-◌, ◌*◌, ◌%◌, ◌^◌, ◌<◌, ◌≤◌, Bool, true, false, List, slice_index, ap, sym, subst, refl, ◌∙◌, arith, nat_lt, not, ◌⊎◌, inl, inr}
+use Rattle.std.proofs.Common.{◌≡◌, ℕ, zero, suc, ◌/◌, ◌+◌, ◌-◌, ◌*◌, ◌%◌, ◌^◌, ◌<◌, ◌≤◌, Bool, true, false, List, ap, sym, subst, refl, ◌∙◌, arith, nat_lt, not, ◌⊎◌, inl, inr}
 use Rattle.std.specs.Prelude.{bit_and, bit_or, if◌then◌else◌}
 use Rattle.std.specs.Int.Bits.{and_zero_r, or_zero_l, or_zero_r}
 use Rattle.std.proofs.lemmas.Nat.{and_mask, pow-add, mul-mod_first, mul-mod_second}
@@ -9,7 +9,7 @@ use Rattle.std.proofs.Math.Pow.{mod-mod-pow, pow_pos, pow-lt, pow_mono}
 use Rattle.wiring.specs.declared.right.Operator.{Operator}
 use Rattle.wiring.specs.declared.right.Operator.TheVariants.{Add, Subtract, Multiply}
 use Rattle.wiring.specs.Rights.{operator_value, repeated}
-use Rattle.batch_rows.specs.Rows.{IsPairRow, IsSingleRow}
+use Rattle.batch_rows.specs.Rows.{IsWritten}
 
 -- a number that fits
 pub whole_is : (n bits : ℕ) → n < 2 ^ bits → n % 2 ^ bits ≡ n
@@ -59,29 +59,25 @@ difference_is bits mask w a b narrow is = chosen (nat_lt mask (b - a)) refl (cas
     chosen false e (inl l) = absurd (let t : nat_lt mask (b - a) ≡ true = lt-ltb mask (b - a) l in cc)
     chosen false e (inr l) = wrapped_mask (a + 2 ^ bits - b) mask w bits narrow is ∙ turned a b w bits narrow (omega (arith, l, is, pow_pos w))
 
-pub row_as : (f g : ℕ → ℕ → ℕ) (to a b : List ℕ) → ((x y : ℕ) → f x y ≡ g x y) → IsPairRow f to a b → IsPairRow g to a b
-row_as f g to a b same row t l = row t l ∙ same (slice_index a t) (slice_index b t)
+-- what was written, by another name of each number
+written_as : {A : Type 0} (value : A → ℕ) (old new : List A) (f g : ℕ → ℕ) → ((t : ℕ) → f t ≡ g t) → IsWritten value old new f → IsWritten value old new g
+written_as value old new f g same row = record { count = row.count; each = λ t l. row.each t l ∙ same t }
 
-module _ (bits mask w : ℕ) (narrow : w ≤ bits) (is : mask ≡ 2 ^ w - 1) (o : Operator) (to a b : List ℕ) where
-  pub sum_row : o ≡ Add → IsPairRow (masked_sum bits mask) to a b → IsPairRow (operator_value o w) to a b
-  sum_row e row = subst (λ (p : Operator). IsPairRow (operator_value p w) to a b) (sym e) (row_as (masked_sum bits mask) (operator_value Add w) to a b (λ x y. wrapped_mask (x + y) mask w bits narrow is) row)
+module _ {A : Type 0} (value : A → ℕ) (old new : List A) (bits mask w : ℕ) (narrow : w ≤ bits) (is : mask ≡ 2 ^ w - 1) (o : Operator) (a b : ℕ → ℕ) where
+  abbrev HasNumbers : (ℕ → ℕ → ℕ) → Type 0
+  HasNumbers f = IsWritten value old new (λ t. f (a t) (b t))
 
-  pub difference_row : o ≡ Subtract → IsPairRow (masked_difference bits mask) to a b → IsPairRow (operator_value o w) to a b
-  difference_row e row = subst (λ (p : Operator). IsPairRow (operator_value p w) to a b) (sym e) (row_as (masked_difference bits mask) (operator_value Subtract w) to a b (λ x y. difference_is bits mask w x y narrow is) row)
+  same_numbers : (f g : ℕ → ℕ → ℕ) → ((x y : ℕ) → f x y ≡ g x y) → HasNumbers f → HasNumbers g
+  same_numbers f g same row = written_as value old new (λ t. f (a t) (b t)) (λ t. g (a t) (b t)) (λ t. same (a t) (b t)) row
 
-  pub product_row : o ≡ Multiply → IsPairRow (masked_product bits mask) to a b → IsPairRow (operator_value o w) to a b
-  product_row e row = subst (λ (p : Operator). IsPairRow (operator_value p w) to a b) (sym e) (row_as (masked_product bits mask) (operator_value Multiply w) to a b (λ x y. wrapped_mask (x * y) mask w bits narrow is) row)
+  pub sum_row : o ≡ Add → HasNumbers (masked_sum bits mask) → HasNumbers (operator_value o w)
+  sum_row e row = subst (λ (p : Operator). HasNumbers (operator_value p w)) (sym e) (same_numbers (masked_sum bits mask) (operator_value Add w) (λ x y. wrapped_mask (x + y) mask w bits narrow is) row)
 
--- the same with one number in all clocks
-module _ (bits mask w : ℕ) (narrow : w ≤ bits) (is : mask ≡ 2 ^ w - 1) (o : Operator) (to a : List ℕ) (b : ℕ) where
-  pub sum_number : o ≡ Add → IsSingleRow (λ x. masked_sum bits mask x b) to a → IsSingleRow (λ x. operator_value o w x b) to a
-  sum_number e row = subst (λ (p : Operator). IsSingleRow (λ x. operator_value p w x b) to a) (sym e) (λ t l. row t l ∙ wrapped_mask (slice_index a t + b) mask w bits narrow is)
+  pub difference_row : o ≡ Subtract → HasNumbers (masked_difference bits mask) → HasNumbers (operator_value o w)
+  difference_row e row = subst (λ (p : Operator). HasNumbers (operator_value p w)) (sym e) (same_numbers (masked_difference bits mask) (operator_value Subtract w) (λ x y. difference_is bits mask w x y narrow is) row)
 
-  pub difference_number : o ≡ Subtract → IsSingleRow (λ x. masked_difference bits mask x b) to a → IsSingleRow (λ x. operator_value o w x b) to a
-  difference_number e row = subst (λ (p : Operator). IsSingleRow (λ x. operator_value p w x b) to a) (sym e) (λ t l. row t l ∙ difference_is bits mask w (slice_index a t) b narrow is)
-
-  pub product_number : o ≡ Multiply → IsSingleRow (λ x. masked_product bits mask x b) to a → IsSingleRow (λ x. operator_value o w x b) to a
-  product_number e row = subst (λ (p : Operator). IsSingleRow (λ x. operator_value p w x b) to a) (sym e) (λ t l. row t l ∙ wrapped_mask (slice_index a t * b) mask w bits narrow is)
+  pub product_row : o ≡ Multiply → HasNumbers (masked_product bits mask) → HasNumbers (operator_value o w)
+  product_row e row = subst (λ (p : Operator). HasNumbers (operator_value p w)) (sym e) (same_numbers (masked_product bits mask) (operator_value Multiply w) (λ x y. wrapped_mask (x * y) mask w bits narrow is) row)
 
 -- a one, moved up
 pub one_shifted : (k n : ℕ) → k < 64 → 1 * 2 ^ k % 2 ^ 64 ≡ n → n ≡ 2 ^ k

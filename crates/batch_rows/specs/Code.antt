@@ -1,13 +1,14 @@
 -- Instructions over rows.
-use Rattle.std.specs.Prelude.{◌≡◌, ◌≢◌, ℕ, ◌^◌, ◌<◌, ◌≤◌, List, [], length, slice_index, slice_index_or, slice_get, Some, None, All, Contains}
+use Rattle.std.specs.Prelude.{◌≡◌, ◌≢◌, ℕ, ◌^◌, ◌<◌, ◌≤◌, List, [], length, map, slice_index, slice_index_or, slice_get, Some, None, All, Contains}
 use Rattle.wiring.specs.Sizes.{IsConstant}
 use Rattle.wiring.specs.Rights.{array_of, nets_of, constants_of, right_value, right_width}
 use Rattle.wiring.specs.Rules.{WidthsAgree}
 use Rattle.batch_rows.specs.declared.code.Instruction.{Instruction}
-use Rattle.batch_rows.specs.LaneSizes.{AreSized}
+use Rattle.batch_rows.specs.LaneSizes.{IsSized, AreSized}
+use Rattle.batch_rows.specs.Rights.{IsRightRow}
 use Rattle.lane_rows.specs.declared.row.Row.{Row}
 use Rattle.lane_rows.specs.declared.row.Size.{Size}
-use Rattle.lane_rows.specs.Values.{InLanes, value_at, values_of}
+use Rattle.lane_rows.specs.Values.{InLanes, row_bits, value_at, values_of}
 
 -- as many rows as widths, each of this many values that fit
 pub record AreRows (widths : List ℕ) (count : ℕ) (rows : List (List ℕ)) : Type 0 where
@@ -57,3 +58,29 @@ pub record HaveRun (widths : List ℕ) (code : List Instruction) (count : ℕ) (
   pub rows : AreRows widths count (values_of made)
   pub lanes : InLanes widths made
   pub hold : AllHold widths count (values_of made) k code
+
+-- a stretch of instructions, from one place up to another
+pub record IsStretch (first last count : ℕ) : Type 0 where
+  pub order : first ≤ last
+  pub within : last ≤ count
+
+-- an instruction can be run over rows of this many places, in a lane of this many bits
+pub record CanRunIn (bits : ℕ) (widths : List ℕ) (clocks : ℕ) (made : List Row) (i : Instruction) : Type 0 where
+  pub sound : IsSound widths i
+  pub sized : IsSized widths bits i
+  pub rows : AreRows widths clocks (values_of made)
+
+-- the row of an instruction was put into its slot, and no other row has changed
+pub record RowIsPut (widths : List ℕ) (clocks : ℕ) (i : Instruction) (old new : List Row) : Type 0 where
+  pub bits : map row_bits new ≡ map row_bits old
+  pub count : length new ≡ length old
+  pub long : length (slice_index_or (values_of new) i.target []) ≡ clocks
+  pub row : IsRightRow widths (values_of old) i.right (slice_index_or (values_of new) i.target [])
+  pub others : (n : ℕ) → n ≢ i.target → slice_index_or (values_of new) n [] ≡ slice_index_or (values_of old) n []
+
+-- rows over which the instructions were run up to this place: those of slots that are no target have not changed
+pub record RowsAreRun (widths : List ℕ) (code : List Instruction) (clocks : ℕ) (old new : List Row) (last : ℕ) : Type 0 where
+  pub bits : map row_bits new ≡ map row_bits old
+  pub count : length new ≡ length old
+  pub ran : HaveRun widths code clocks new last
+  pub others : (n : ℕ) → IsNoTarget code n → slice_index_or (values_of new) n [] ≡ slice_index_or (values_of old) n []

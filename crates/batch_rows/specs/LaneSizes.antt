@@ -50,3 +50,10 @@ RightIsIn widths bits (Repeat n a) = AtomIsIn widths bits a
 RightIsIn widths bits (Bit v k) = slice_index widths v ≤ bits
 RightIsIn widths bits (Slice v m l) = slice_index widths v ≤ bits
 RightIsIn widths bits (Word m i) = AtomIsIn widths bits i
+
+-- a width of at most 64 bits that is no less than another one and than the operands of a right side. One atom is compared as `Copy`,
+-- two as `Join` and three as `Choose` have them
+pub record IsWider (widths : List ℕ) (least wider : ℕ) (r : Right ℕ ℕ) : Type 0 where
+  pub most : wider ≤ 64
+  pub width : least ≤ wider
+  pub right : RightIsIn widths wider r

@@ -1,12 +1,16 @@
 -- Rows of right sides over slots.
-use Rattle.std.specs.Prelude.{◌≡◌, ℕ, ◌^◌, ◌<◌, ◌≤◌, List, [], length, slice_index, slice_index_or}
+use Rattle.std.specs.Prelude.{◌≡◌, ℕ, ◌^◌, ◌<◌, ◌≤◌, List, [], None, length, map, slice_index, slice_index_or}
 use Rattle.wiring.specs.declared.right.Atom.{Atom}
 use Rattle.wiring.specs.declared.right.Atom.TheVariants as atom
 use Rattle.wiring.specs.declared.right.Right.{Right}
 use Rattle.wiring.specs.declared.right.Right.TheVariants.{Copy, Not, Binary, Choose, Join, Repeat, Bit, Slice, Word}
-use Rattle.wiring.specs.Rights.{atom_width, atom_value, right_value}
+use Rattle.wiring.specs.Rights.{array_of, atom_width, atom_value, right_value}
+use Rattle.wiring.specs.Rules.{WidthsAgree}
+use Rattle.batch_rows.specs.declared.rights.Operand.{Operand}
+use Rattle.batch_rows.specs.declared.rights.Slots.{Slots}
 use Rattle.batch_rows.specs.declared.rights.Spares.{Spares}
-use Rattle.lane_rows.specs.Values.{value_at}
+use Rattle.batch_rows.specs.Rows.{number_in, choice}
+use Rattle.lane_rows.specs.Values.{value_at, values_of}
 
 -- the row of an atom has this many clocks
 abbrev pub HasRow : List (List ℕ) → ℕ → Atom ℕ → Type 0
@@ -41,3 +45,60 @@ IsRightRow widths rows r row = (t : ℕ) → t < length row → slice_index row 
 -- room for this many clocks
 abbrev pub HaveRoom : {T : Type 0} → Spares T → ℕ → Type 0
 HaveRoom s count = (count ≤ length s.first.items) × (count ≤ length s.second.items) × (count ≤ length s.third.items)
+
+-- each spare row has as many places as before
+pub record KeepsRoom {T : Type 0} (old new : Spares T) : Type 0 where
+  pub first : length new.first.items ≡ length old.first.items
+  pub second : length new.second.items ≡ length old.second.items
+  pub third : length new.third.items ≡ length old.third.items
+
+-- a width, which is at most 64
+pub record IsWidthOf (bits result : ℕ) : Type 0 where
+  pub width : result ≡ bits
+  pub narrow : result ≤ 64
+
+-- an atom that can be read in a lane of this many bits, with a spare row of this many places
+pub record CanRead (bits : ℕ) (rows : List (List ℕ)) (count places : ℕ) (operand : Atom ℕ) : Type 0 where
+  pub a : IsOperand bits rows count operand
+  pub room : count ≤ places
+
+-- a row of a lane is that of an atom, and has no more clocks than this
+pub record IsRowOf {A : Type 0} (value : A → ℕ) (rows : List (List ℕ)) (a : Atom ℕ) (clocks : ℕ) (read : List A) : Type 0 where
+  pub count : length read ≡ clocks
+  pub row : IsAtomRow rows a clocks (map value read)
+
+-- the same of an operand, in its first clocks
+abbrev pub CanReadOperand : (bits : ℕ) → Operand → (places : ℕ) → Type 0
+CanReadOperand bits o places = CanRead bits (values_of o.rows.now) o.count places o.atom.now
+
+abbrev pub IsRowOfOperand : {A : Type 0} → (A → ℕ) → Operand → List A → Type 0
+IsRowOfOperand value o row = IsRowOf value (values_of o.rows.now) o.atom.now o.count row
+
+-- a row that may be longer begins with that of an operand
+abbrev pub IsFilled : {A : Type 0} → (A → ℕ) → Operand → List A → Type 0
+IsFilled value o row = IsAtomRow (values_of o.rows.now) o.atom.now o.count (map value row)
+
+-- a right side that reads no array can be made in a row of a lane of this many bits, with spare rows
+pub record CanMake {T : Type 0} (bits : ℕ) (slots : Slots) (spares : Spares T) (to : List T) (r : Right ℕ ℕ) : Type 0 where
+  pub operands : AreOperands bits slots.widths.now (values_of slots.rows.now) (length to) r
+  pub agree : WidthsAgree (λ n. slice_index slots.widths.now n) (λ _. 0) r
+  pub plain : array_of r ≡ None
+  pub fits : (t : ℕ) → t < length to → right_value (λ n. slice_index slots.widths.now n) (λ _ _. 0) (value_at (values_of slots.rows.now) t) r < 2 ^ bits
+  pub room : HaveRoom spares (length to)
+
+-- the row of a right side was written
+pub record IsMade {A : Type 0} (value : A → ℕ) (slots : Slots) (r : Right ℕ ℕ) (old new : Spares A) (before to : List A) : Type 0 where
+  pub spares : KeepsRoom old new
+  pub count : length to ≡ length before
+  pub row : IsRightRow slots.widths.now (values_of slots.rows.now) r (map value to)
+
+-- one of two atoms can be chosen at each clock of a row, by a row of bits, in a lane of this many bits
+pub record CanChoose {A B : Type 0} (lane : ℕ) (rows : List (List ℕ)) (to : List A) (bits : List B) (ones others : Atom ℕ) : Type 0 where
+  pub bit : length bits ≡ length to
+  pub on : IsOperand lane rows (length to) ones
+  pub off : IsOperand lane rows (length to) others
+
+-- one of two atoms was written at each clock, by its bit
+pub record IsChosen {A B : Type 0} (value : A → ℕ) (bit : B → ℕ) (rows : List (List ℕ)) (bits : List B) (ones others : Atom ℕ) (old new : List A) : Type 0 where
+  pub count : length new ≡ length old
+  pub row : (t : ℕ) → t < length new → slice_index (map value new) t ≡ choice (number_in bit bits t) (atom_value (value_at rows t) ones) (atom_value (value_at rows t) others)

@@ -1,5 +1,5 @@
 -- Slots that are marked.
-use Rattle.std.specs.Prelude.{◌≡◌, ℕ, ◌<◌, ◌≤◌, Bool, true, false, List, slice_index_or, slice_get, Some, Contains}
+use Rattle.std.specs.Prelude.{◌≡◌, ℕ, ◌<◌, ◌≤◌, Bool, true, false, IsTrue, List, slice_index_or, slice_get, Some, Contains}
 use Rattle.wiring.specs.declared.right.Atom.{Atom}
 use Rattle.wiring.specs.declared.right.Atom.TheVariants as atom
 use Rattle.wiring.specs.declared.right.Right.{Right}
@@ -28,6 +28,19 @@ RightSeen seen (Word m i) = AtomSeen seen i
 -- what was marked stays so
 abbrev pub Keeps : (old new : List Bool) → Type 0
 Keeps old new = (n : ℕ) → IsSeen old n → IsSeen new n
+
+-- operands were marked, if there was a place for each. One atom is marked as `Copy` and two as `Join` have them
+pub record AreMarked (old new : List Bool) (all : Bool) (right : Right ℕ ℕ) : Type 0 where
+  pub keeps : Keeps old new
+  pub marked : IsTrue all → RightSeen new right
+
+-- the slots of an instruction were marked, and its target is new, if this is true
+pub record GoesOn (old new : List Bool) (goes : Bool) (i : Instruction) : Type 0 where
+  pub keeps : Keeps old new
+  pub right : IsTrue goes → RightSeen new i.right
+  pub target : IsTrue goes → IsSeen new i.target
+  pub fresh : IsTrue goes → IsSeen old i.target → ⊥
+  pub apart : IsTrue goes → Contains (nets_of i.right) i.target → ⊥
 
 -- the slots of the first n instructions are marked, and none of these writes what one before it, or itself, reads or has written
 pub record IsOrderedUpTo (seen : List Bool) (k : ℕ) (code : List Instruction) : Type 0 where

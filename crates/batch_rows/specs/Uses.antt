@@ -27,6 +27,12 @@ RightUsed uses number (Bit v k) = slice_index uses v ≤ number
 RightUsed uses number (Slice v m l) = slice_index uses v ≤ number
 RightUsed uses number (Word m i) = AtomUsed uses number i
 
+-- the operands of a right side were noted as used by the instruction of this number. One atom is noted as `Copy`, two as `Join` and
+-- three as `Choose` have them
+pub record AreNoted (old new : List ℕ) (number : ℕ) (right : Right ℕ ℕ) : Type 0 where
+  pub last : LastNo old new
+  pub used : RightUsed new number right
+
 -- no one of the first n instructions reads or writes a slot before its first use
 pub record AreFirstUsesOf (count : ℕ) (code : List Instruction) (uses : List ℕ) : Type 0 where
   pub reads : (p n : ℕ) (i : Instruction) → p < count → slice_get code p ≡ Some i → Contains (nets_of i.right) n → slice_index uses n ≤ p

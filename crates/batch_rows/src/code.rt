@@ -1,10 +1,10 @@
 // Instructions over rows.
 
-ghost use Rattle.std.specs.Prelude.{◌≡◌, ◌≢◌, ℕ, ◌<◌, ◌≤◌, [], length, map, slice_index_or, IfOk};
-ghost use Rattle.lane_rows.specs.Values.{InLanes, bits_of, row_bits, values_of};
-ghost use Rattle.batch_rows.specs.Rights.{IsRightRow, HaveRoom};
-ghost use Rattle.batch_rows.specs.Code.{AreRows, IsSound, IsNoTarget, CanRun, HaveRun};
-ghost use Rattle.batch_rows.specs.LaneSizes.{IsSized, HasScratch, HaveRooms};
+ghost use Rattle.std.specs.Prelude.{◌≡◌, ◌<◌, ◌≤◌, length, map, IfOk};
+ghost use Rattle.lane_rows.specs.Values.{InLanes, bits_of, values_of};
+ghost use Rattle.batch_rows.specs.Rights.{IsRightRow};
+ghost use Rattle.batch_rows.specs.Code.{IsStretch, CanRunIn, RowIsPut, CanRun, HaveRun, RowsAreRun};
+ghost use Rattle.batch_rows.specs.LaneSizes.{HasScratch, HaveRooms};
 
 use crate::rights::{Slots, Spares, right_row};
 use lane_rows::{Lane, Row, Size, put_row};
@@ -12,14 +12,14 @@ use std::alloc::{AllocError, Global};
 use wiring::{Right, Width};
 
 /// A slot that takes the value of a right side over slots.
-#[derive(Clone, Copy, Debug)]
+#[derive(Clone, Copy)]
 pub struct Instruction {
     pub target: usize,
     pub right: Right<usize, usize>,
 }
 
 /// Room for the instructions that are run in a lane: a row for what one makes, and spare rows for its operands.
-#[derive(Debug, Drop)]
+#[derive(Drop)]
 pub struct Scratch<L> {
     pub(crate) to: Vec<L>,
     pub(crate) spares: Spares<L>,
@@ -37,7 +37,7 @@ impl<L: Lane> Scratch<L> {
 }
 
 /// That of all lanes.
-#[derive(Debug, Drop)]
+#[derive(Drop)]
 pub struct Rooms {
     pub(crate) narrow: Scratch<u16>,
     pub(crate) middle: Scratch<u32>,
@@ -67,12 +67,9 @@ fn make_row<L: Lane>(
     scratch: &mut Scratch<L>,
     instruction: &Instruction,
 )
-    requires sound { IsSound widths.now instruction.now }
-    requires sized { IsSized widths.now L.bits instruction.now }
-    requires rows { AreRows widths.now (length scratch.old.to.items) (values_of rows.now) }
-    requires spares { HaveRoom scratch.old.spares (length scratch.old.to.items) }
-    ensures spares { HaveRoom scratch.new.spares (length scratch.old.to.items) }
-    ensures room { length scratch.new.to.items ≡ length scratch.old.to.items }
+    requires one { CanRunIn L.bits widths.now (length scratch.old.to.items) rows.now instruction.now }
+    requires scratch { HasScratch scratch.old (length scratch.old.to.items) }
+    ensures scratch { HasScratch scratch.new (length scratch.old.to.items) }
     ensures row { IsRightRow widths.now (values_of rows.now) instruction.now.right (map L.value scratch.new.to.items) }
 {
     let slots = Slots { widths, rows };
@@ -91,18 +88,11 @@ fn run_in<L: Lane>(
     scratch: &mut Scratch<L>,
     instruction: &Instruction,
 )
-    requires sound { IsSound widths.now instruction.now }
-    requires sized { IsSized widths.now L.bits instruction.now }
-    requires rows { AreRows widths.now (length scratch.old.to.items) (values_of rows.old) }
+    requires one { CanRunIn L.bits widths.now (length scratch.old.to.items) rows.old instruction.now }
     requires lanes { InLanes widths.now rows.old }
-    requires spares { HaveRoom scratch.old.spares (length scratch.old.to.items) }
-    ensures spares { HaveRoom scratch.new.spares (length scratch.old.to.items) }
-    ensures room { length scratch.new.to.items ≡ length scratch.old.to.items }
-    ensures bits { map row_bits rows.new ≡ map row_bits rows.old }
-    ensures count { length rows.new ≡ length rows.old }
-    ensures long { length (slice_index_or (values_of rows.new) instruction.now.target []) ≡ length scratch.old.to.items }
-    ensures row { IsRightRow widths.now (values_of rows.old) instruction.now.right (slice_index_or (values_of rows.new) instruction.now.target []) }
-    ensures others { (n : ℕ) → n ≢ instruction.now.target → slice_index_or (values_of rows.new) n [] ≡ slice_index_or (values_of rows.old) n [] }
+    requires scratch { HasScratch scratch.old (length scratch.old.to.items) }
+    ensures scratch { HasScratch scratch.new (length scratch.old.to.items) }
+    ensures put { RowIsPut widths.now (length scratch.old.to.items) instruction.now rows.old rows.new }
 {
     make_row(widths, rows, scratch, instruction);
     put_row(rows, instruction.target, &mut scratch.to);
@@ -117,17 +107,11 @@ fn run_instruction(
     size: Size,
     count: usize,
 )
-    requires sound { IsSound widths.now instruction.now }
-    requires sized { IsSized widths.now (bits_of size) instruction.now }
-    requires rows { AreRows widths.now count (values_of rows.old) }
+    requires one { CanRunIn (bits_of size) widths.now count rows.old instruction.now }
     requires lanes { InLanes widths.now rows.old }
     requires rooms { HaveRooms rooms.old count }
     ensures rooms { HaveRooms rooms.new count }
-    ensures bits { map row_bits rows.new ≡ map row_bits rows.old }
-    ensures count { length rows.new ≡ length rows.old }
-    ensures long { length (slice_index_or (values_of rows.new) instruction.now.target []) ≡ count }
-    ensures row { IsRightRow widths.now (values_of rows.old) instruction.now.right (slice_index_or (values_of rows.new) instruction.now.target []) }
-    ensures others { (n : ℕ) → n ≢ instruction.now.target → slice_index_or (values_of rows.new) n [] ≡ slice_index_or (values_of rows.old) n [] }
+    ensures put { RowIsPut widths.now count instruction.now rows.old rows.new }
 {
     match size {
         Size::Narrow => run_in(widths, rows, &mut rooms.narrow, instruction),
@@ -154,17 +138,12 @@ pub fn run_code(
     last: usize,
     count: usize,
 )
-    requires places { first ≤ last }
-    requires within { last ≤ length code.now.instructions.now }
+    requires places { IsStretch first last (length code.now.instructions.now) }
     requires code { CanRun code.now.widths.now code.now.instructions.now code.now.sizes.now }
     requires ran { HaveRun code.now.widths.now code.now.instructions.now count rows.old first }
     requires rooms { HaveRooms rooms.old count }
     ensures rooms { HaveRooms rooms.new count }
-    ensures bits { map row_bits rows.new ≡ map row_bits rows.old }
-    ensures count { length rows.new ≡ length rows.old }
-    ensures ran { HaveRun code.now.widths.now code.now.instructions.now count rows.new last }
-    ensures others { (n : ℕ) → IsNoTarget code.now.instructions.now n
-        → slice_index_or (values_of rows.new) n [] ≡ slice_index_or (values_of rows.old) n [] }
+    ensures run { RowsAreRun code.now.widths.now code.now.instructions.now count rows.old rows.new last }
 {
     let widths = code.widths;
     let instructions = code.instructions;

@@ -4,21 +4,21 @@ use crate::code::Instruction;
 use wiring::{Atom, Width};
 
 /// The one assign that reads an array: the slot of its target, and the index.
-#[derive(Clone, Copy, Debug)]
+#[derive(Clone, Copy)]
 pub struct WordRead {
     pub target: usize,
     pub index: Atom<usize>,
 }
 
 /// What is put into an array at each clock edge.
-#[derive(Clone, Copy, Debug)]
+#[derive(Clone, Copy)]
 pub struct WordPut {
     pub index: Atom<usize>,
     pub value: Atom<usize>,
 }
 
 /// A module over slots: its inputs, its outputs, its wires and its registers, one after another.
-#[derive(Debug, Drop)]
+#[derive(Drop)]
 pub struct BatchCode {
     pub widths: Vec<Width>,
     pub first_output: usize,

@@ -3,7 +3,9 @@
 ghost use Rattle.std.specs.Prelude.{◌≡◌, ◌<◌, length, false, IsTrue, IfOk, Contains, slice_index_or};
 ghost use Rattle.wiring.specs.Rights.{nets_of};
 ghost use Rattle.batch_rows.specs.Code.{IsOrdered};
-ghost use Rattle.batch_rows.specs.Seen.{IsSeen, AtomSeen, RightSeen, Keeps, IsOrderedUpTo};
+ghost use Rattle.wiring.specs.declared.right.Atom.TheVariants.{Net};
+ghost use Rattle.wiring.specs.declared.right.Right.TheVariants.{Copy, Join};
+ghost use Rattle.batch_rows.specs.Seen.{AreMarked, GoesOn, IsOrderedUpTo};
 
 use crate::code::Instruction;
 use std::alloc::{AllocError, Global};
@@ -11,8 +13,7 @@ use wiring::{Atom, Right};
 
 // Whether there was a place for the mark.
 fn mark(seen: &mut [bool], slot: usize) -> bool
-    ensures keeps { Keeps seen.old seen.new }
-    ensures marked { IsTrue result → IsSeen seen.new slot }
+    ensures { AreMarked seen.old seen.new result (Copy (Net slot)) }
 {
     if slot < seen.len() {
         seen[slot] = true;
@@ -23,8 +24,7 @@ fn mark(seen: &mut [bool], slot: usize) -> bool
 }
 
 fn mark_atom(seen: &mut [bool], a: &Atom<usize>) -> bool
-    ensures keeps { Keeps seen.old seen.new }
-    ensures marked { IsTrue result → AtomSeen seen.new a.now }
+    ensures { AreMarked seen.old seen.new result (Copy a.now) }
 {
     match a {
         Atom::Net(n) => mark(seen, *n),
@@ -33,9 +33,7 @@ fn mark_atom(seen: &mut [bool], a: &Atom<usize>) -> bool
 }
 
 fn mark_two(seen: &mut [bool], a: &Atom<usize>, b: &Atom<usize>) -> bool
-    ensures keeps { Keeps seen.old seen.new }
-    ensures first { IsTrue result → AtomSeen seen.new a.now }
-    ensures second { IsTrue result → AtomSeen seen.new b.now }
+    ensures { AreMarked seen.old seen.new result (Join a.now b.now) }
 {
     if !mark_atom(seen, a) {
         return false;
@@ -44,8 +42,7 @@ fn mark_two(seen: &mut [bool], a: &Atom<usize>, b: &Atom<usize>) -> bool
 }
 
 fn mark_right(seen: &mut [bool], right: &Right<usize, usize>) -> bool
-    ensures keeps { Keeps seen.old seen.new }
-    ensures marked { IsTrue result → RightSeen seen.new right.now }
+    ensures { AreMarked seen.old seen.new result right.now }
 {
     match right {
         Right::Copy(a) => mark_atom(seen, a),
@@ -74,11 +71,7 @@ fn is_marked(seen: &[bool], slot: usize) -> bool
 // Marks what an instruction reads and writes. It answers true only where its target had no mark, and is none of what it reads.
 #[tactic(auto, using(crate::proofs::Order::not_seen, crate::proofs::Order::not_read))]
 fn goes_on(seen: &mut [bool], instruction: &Instruction) -> bool
-    ensures keeps { Keeps seen.old seen.new }
-    ensures right { IsTrue result → RightSeen seen.new instruction.now.right }
-    ensures target { IsTrue result → IsSeen seen.new instruction.now.target }
-    ensures fresh { IsTrue result → IsSeen seen.old instruction.now.target → ⊥ }
-    ensures apart { IsTrue result → Contains (nets_of instruction.now.right) instruction.now.target → ⊥ }
+    ensures { GoesOn seen.old seen.new result instruction.now }
 {
     if !mark_right(seen, &instruction.right) {
         return false;

@@ -2,7 +2,7 @@
 
 ghost use Rattle.std.specs.Prelude.{◌≡◌, ℕ, ◌+◌, ◌-◌, ◌*◌, ◌/◌, ◌%◌, ◌^◌, ◌<◌, ◌≤◌, length, map, slice_index, bit_and, bit_or, bit_xor, if◌then◌else◌, ◌==◌, nat_lt, IfSome};
 ghost use Rattle.wiring.specs.Rights.{operator_value};
-ghost use Rattle.batch_rows.specs.Rows.{IsPairRow, IsSingleRow};
+ghost use Rattle.batch_rows.specs.Rows.{number_in, IsSingleOf, IsPairOf, CanJoin, AreTwoRows};
 
 use crate::singles::{Single, Whole, mask_of, single_row};
 use lane_rows::Lane;
@@ -17,10 +17,8 @@ trait Pair<L: Lane> {
 }
 
 fn pair_row<L: Lane, P: Pair<L>>(pair: &P, to: &mut [L], a: &[L], b: &[L])
-    requires a { length a.now ≡ length to.old }
-    requires b { length b.now ≡ length to.old }
-    ensures count { length to.new ≡ length to.old }
-    ensures each { IsPairRow (P.value pair.now) (map L.value to.new) (map L.value a.now) (map L.value b.now) }
+    requires { AreTwoRows (length to.old) a.now b.now }
+    ensures { IsPairOf L.value (P.value pair.now) to.old to.new a.now b.now }
 {
     for t in 0..to.len() {
         to[t] = pair.of(a[t], b[t]);
@@ -192,9 +190,8 @@ impl<L: Lane, P: Pair<L> + Copy> Single<L> for With<P, L> {
 
 // A row with a number, clock by clock.
 fn with_number<L: Lane, P: Pair<L> + Copy>(pair: P, second: L, to: &mut [L], a: &[L])
-    requires a { length a.now ≡ length to.old }
-    ensures count { length to.new ≡ length to.old }
-    ensures each { IsSingleRow (λ x. P.value pair x (L.value second)) (map L.value to.new) (map L.value a.now) }
+    requires { length a.now ≡ length to.old }
+    ensures { IsSingleOf L.value (λ x. P.value pair x (L.value second)) to.old to.new a.now }
 {
     single_row(&With { pair, second }, to, a);
 }
@@ -202,12 +199,9 @@ fn with_number<L: Lane, P: Pair<L> + Copy>(pair: P, second: L, to: &mut [L], a: 
 // A row above another one of some bits.
 #[tactic(auto, using(crate::proofs::Masks::above_is, crate::proofs::Masks::alone_is))]
 pub fn join_row<L: Lane>(width: u8, to: &mut [L], a: &[L], b: &[L])
-    requires narrow { width ≤ L.bits }
-    requires a { length a.now ≡ length to.old }
-    requires b { length b.now ≡ length to.old }
-    requires fits { (t : ℕ) → t < length to.old → slice_index (map L.value a.now) t * 2 ^ width + slice_index (map L.value b.now) t < 2 ^ L.bits }
-    ensures count { length to.new ≡ length to.old }
-    ensures each { (t : ℕ) → t < length to.new → slice_index (map L.value to.new) t ≡ slice_index (map L.value a.now) t * 2 ^ width + slice_index (map L.value b.now) t }
+    requires rows { AreTwoRows (length to.old) a.now b.now }
+    requires can { CanJoin L.bits width (length to.old) (number_in L.value a.now) (number_in L.value b.now) }
+    ensures { IsPairOf L.value (λ x y. x * 2 ^ width + y) to.old to.new a.now b.now }
 {
     if width < L::bits() {
         pair_row(&Above { width }, to, a, b);
@@ -219,11 +213,9 @@ pub fn join_row<L: Lane>(width: u8, to: &mut [L], a: &[L], b: &[L])
 // A number above each one of a row of some bits.
 #[tactic(auto, using(crate::proofs::Masks::above_is, crate::proofs::Masks::alone_is))]
 pub(crate) fn join_number_row<L: Lane>(width: u8, to: &mut [L], number: L, b: &[L])
-    requires narrow { width ≤ L.bits }
     requires b { length b.now ≡ length to.old }
-    requires fits { (t : ℕ) → t < length to.old → L.value number * 2 ^ width + slice_index (map L.value b.now) t < 2 ^ L.bits }
-    ensures count { length to.new ≡ length to.old }
-    ensures each { (t : ℕ) → t < length to.new → slice_index (map L.value to.new) t ≡ L.value number * 2 ^ width + slice_index (map L.value b.now) t }
+    requires can { CanJoin L.bits width (length to.old) (λ _. L.value number) (number_in L.value b.now) }
+    ensures { IsSingleOf L.value (λ y. L.value number * 2 ^ width + y) to.old to.new b.now }
 {
     if width < L::bits() {
         single_row(&Under { number, width }, to, b);
@@ -265,9 +257,8 @@ fn power_of(number: u64) -> Option<u8>
 // A row divided by a number.
 #[tactic(auto, using(crate::proofs::Masks::shifted_quotient))]
 fn divide_row<L: Lane>(to: &mut [L], a: &[L], divisor: L)
-    requires a { length a.now ≡ length to.old }
-    ensures count { length to.new ≡ length to.old }
-    ensures each { IsSingleRow (λ x. x / L.value divisor) (map L.value to.new) (map L.value a.now) }
+    requires { length a.now ≡ length to.old }
+    ensures { IsSingleOf L.value (λ x. x / L.value divisor) to.old to.new a.now }
 {
     match power_of(divisor.word()) {
         Some(by) => single_row(&Shifted { by }, to, a),
@@ -285,8 +276,7 @@ pub(crate) fn operator_number_row<L: Lane>(
 )
     requires narrow { width ≤ L.bits }
     requires a { length a.now ≡ length to.old }
-    ensures count { length to.new ≡ length to.old }
-    ensures each { IsSingleRow (λ x. operator_value op width x (L.value second)) (map L.value to.new) (map L.value a.now) }
+    ensures { IsSingleOf L.value (λ x. operator_value op width x (L.value second)) to.old to.new a.now }
 {
     let mask = mask_of(width);
     match op {
@@ -305,10 +295,8 @@ pub(crate) fn operator_number_row<L: Lane>(
 /// A row from two rows under an operator.
 pub fn operator_row<L: Lane>(op: Operator, width: u8, to: &mut [L], a: &[L], b: &[L])
     requires narrow { width ≤ L.bits }
-    requires a { length a.now ≡ length to.old }
-    requires b { length b.now ≡ length to.old }
-    ensures count { length to.new ≡ length to.old }
-    ensures each { IsPairRow (operator_value op width) (map L.value to.new) (map L.value a.now) (map L.value b.now) }
+    requires rows { AreTwoRows (length to.old) a.now b.now }
+    ensures { IsPairOf L.value (operator_value op width) to.old to.new a.now b.now }
 {
     let mask = mask_of(width);
     match op {

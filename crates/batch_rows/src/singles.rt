@@ -2,7 +2,7 @@
 
 ghost use Rattle.std.specs.Prelude.{◌≡◌, ℕ, ◌+◌, ◌-◌, ◌*◌, ◌/◌, ◌%◌, ◌^◌, ◌<◌, ◌≤◌, length, map, slice_index, bit_and, if◌then◌else◌, ◌==◌};
 ghost use Rattle.wiring.specs.Rights.{repeated};
-ghost use Rattle.batch_rows.specs.Rows.{IsSingleRow, IsChosenRow};
+ghost use Rattle.batch_rows.specs.Rows.{number_in, IsWritten, IsSingleOf};
 
 use lane_rows::Lane;
 use wiring::limit;
@@ -16,9 +16,8 @@ pub(crate) trait Single<L: Lane> {
 }
 
 pub(crate) fn single_row<L: Lane, S: Single<L>>(single: &S, to: &mut [L], a: &[L])
-    requires a { length a.now ≡ length to.old }
-    ensures count { length to.new ≡ length to.old }
-    ensures each { IsSingleRow (S.value single.now) (map L.value to.new) (map L.value a.now) }
+    requires { length a.now ≡ length to.old }
+    ensures { IsSingleOf L.value (S.value single.now) to.old to.new a.now }
 {
     for t in 0..to.len() {
         to[t] = single.of(a[t]);
@@ -130,9 +129,8 @@ fn one_above(all: u64, width: u8) -> u64
 pub(crate) fn repeat_row<L: Lane>(copies: u8, width: u8, to: &mut [L], a: &[L])
     requires narrow { width ≤ 64 }
     requires a { length a.now ≡ length to.old }
-    requires fits { (t : ℕ) → t < length to.old → repeated copies width (slice_index (map L.value a.now) t) < 2 ^ L.bits }
-    ensures count { length to.new ≡ length to.old }
-    ensures each { (t : ℕ) → t < length to.new → slice_index (map L.value to.new) t ≡ repeated copies width (slice_index (map L.value a.now) t) }
+    requires fits { (t : ℕ) → t < length to.old → repeated copies width (number_in L.value a.now t) < 2 ^ L.bits }
+    ensures { IsSingleOf L.value (repeated copies width) to.old to.new a.now }
 {
     let _bits = L::bits();
     let factor = L::cut(factor(copies, width));
@@ -141,8 +139,7 @@ pub(crate) fn repeat_row<L: Lane>(copies: u8, width: u8, to: &mut [L], a: &[L])
 
 // At each clock the same number.
 pub(crate) fn constant_row<L: Lane>(to: &mut [L], number: L)
-    ensures count { length to.new ≡ length to.old }
-    ensures each { (t : ℕ) → t < length to.new → slice_index (map L.value to.new) t ≡ L.value number }
+    ensures { IsWritten L.value to.old to.new (λ _. L.value number) }
 {
     for t in 0..to.len() {
         to[t] = number;

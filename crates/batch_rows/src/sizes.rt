@@ -1,7 +1,9 @@
 // Lanes for slots and for instructions.
 
 ghost use Rattle.std.specs.Prelude.{◌≡◌, ℕ, ◌+◌, ◌<◌, ◌≤◌, length, replicate, slice_index, IfOk};
-ghost use Rattle.batch_rows.specs.LaneSizes.{AtomIsIn, RightIsIn, IsSized, AreSized};
+ghost use Rattle.wiring.specs.declared.right.Atom.TheVariants.{Net};
+ghost use Rattle.wiring.specs.declared.right.Right.TheVariants.{Copy, Choose, Join};
+ghost use Rattle.batch_rows.specs.LaneSizes.{IsWider, IsSized, AreSized};
 ghost use Rattle.lane_rows.specs.Values.{bits_of, row_bits, row_values};
 
 use crate::code::Instruction;
@@ -13,28 +15,21 @@ use wiring::{Atom, Right, Width};
 // The wider one of a width and an atom.
 fn wider(widths: &[Width], a: &Atom<usize>, width: u8) -> u8
     requires { width ≤ 64 }
-    ensures most { result ≤ 64 }
-    ensures width { width ≤ result }
-    ensures atom { AtomIsIn widths.now result a.now }
+    ensures { IsWider widths.now width result (Copy a.now) }
 {
     width_of(widths, a).max(width)
 }
 
 fn wider_slot(widths: &[Width], slot: usize, width: u8) -> u8
     requires { width ≤ 64 }
-    ensures most { result ≤ 64 }
-    ensures width { width ≤ result }
-    ensures slot { slice_index widths.now slot ≤ result }
+    ensures { IsWider widths.now width result (Copy (Net slot)) }
 {
     slot_width(widths, slot).max(width)
 }
 
 fn wider_two(widths: &[Width], a: &Atom<usize>, b: &Atom<usize>, width: u8) -> u8
     requires { width ≤ 64 }
-    ensures most { result ≤ 64 }
-    ensures width { width ≤ result }
-    ensures first { AtomIsIn widths.now result a.now }
-    ensures second { AtomIsIn widths.now result b.now }
+    ensures { IsWider widths.now width result (Join a.now b.now) }
 {
     let both = wider(widths, a, width);
     wider(widths, b, both)
@@ -42,11 +37,7 @@ fn wider_two(widths: &[Width], a: &Atom<usize>, b: &Atom<usize>, width: u8) -> u
 
 fn wider_three(widths: &[Width], a: &Atom<usize>, b: &Atom<usize>, c: &Atom<usize>, width: u8) -> u8
     requires { width ≤ 64 }
-    ensures most { result ≤ 64 }
-    ensures width { width ≤ result }
-    ensures first { AtomIsIn widths.now result a.now }
-    ensures second { AtomIsIn widths.now result b.now }
-    ensures third { AtomIsIn widths.now result c.now }
+    ensures { IsWider widths.now width result (Choose a.now b.now c.now) }
 {
     let two = wider_two(widths, a, b, width);
     wider(widths, c, two)
@@ -55,9 +46,7 @@ fn wider_three(widths: &[Width], a: &Atom<usize>, b: &Atom<usize>, c: &Atom<usiz
 // The greatest width of the operands of a right side, at least this one.
 fn widest(widths: &[Width], right: &Right<usize, usize>, width: u8) -> u8
     requires { width ≤ 64 }
-    ensures most { result ≤ 64 }
-    ensures width { width ≤ result }
-    ensures right { RightIsIn widths.now result right.now }
+    ensures { IsWider widths.now width result right.now }
 {
     match right {
         Right::Copy(a) => wider(widths, a, width),

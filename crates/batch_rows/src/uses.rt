@@ -1,7 +1,9 @@
 // The first instruction that reads or writes each slot.
 
 ghost use Rattle.std.specs.Prelude.{◌≤◌, ◌≡◌, length, IfOk, slice_index};
-ghost use Rattle.batch_rows.specs.Uses.{LastNo, AtomUsed, RightUsed, AreFirstUses};
+ghost use Rattle.wiring.specs.declared.right.Atom.TheVariants.{Net};
+ghost use Rattle.wiring.specs.declared.right.Right.TheVariants.{Copy, Choose, Join};
+ghost use Rattle.batch_rows.specs.Uses.{AreNoted, AreFirstUses};
 
 use crate::code::Instruction;
 use std::alloc::{AllocError, Global};
@@ -9,8 +11,7 @@ use wiring::{Atom, Right};
 
 // A use of a slot by the instruction of this number.
 fn note_slot(uses: &mut [usize], slot: usize, number: usize)
-    ensures last { LastNo uses.old uses.new }
-    ensures used { slice_index uses.new slot ≤ number }
+    ensures { AreNoted uses.old uses.new number (Copy (Net slot)) }
 {
     if slot < uses.len() {
         uses[slot] = uses[slot].min(number);
@@ -18,8 +19,7 @@ fn note_slot(uses: &mut [usize], slot: usize, number: usize)
 }
 
 fn note_atom(uses: &mut [usize], a: &Atom<usize>, number: usize)
-    ensures last { LastNo uses.old uses.new }
-    ensures used { AtomUsed uses.new number a.now }
+    ensures { AreNoted uses.old uses.new number (Copy a.now) }
 {
     match a {
         Atom::Net(n) => note_slot(uses, *n, number),
@@ -28,27 +28,21 @@ fn note_atom(uses: &mut [usize], a: &Atom<usize>, number: usize)
 }
 
 fn note_two(uses: &mut [usize], a: &Atom<usize>, b: &Atom<usize>, number: usize)
-    ensures last { LastNo uses.old uses.new }
-    ensures first { AtomUsed uses.new number a.now }
-    ensures second { AtomUsed uses.new number b.now }
+    ensures { AreNoted uses.old uses.new number (Join a.now b.now) }
 {
     note_atom(uses, a, number);
     note_atom(uses, b, number);
 }
 
 fn note_three(uses: &mut [usize], a: &Atom<usize>, b: &Atom<usize>, c: &Atom<usize>, number: usize)
-    ensures last { LastNo uses.old uses.new }
-    ensures first { AtomUsed uses.new number a.now }
-    ensures second { AtomUsed uses.new number b.now }
-    ensures third { AtomUsed uses.new number c.now }
+    ensures { AreNoted uses.old uses.new number (Choose a.now b.now c.now) }
 {
     note_atom(uses, a, number);
     note_two(uses, b, c, number);
 }
 
 fn note_right(uses: &mut [usize], right: &Right<usize, usize>, number: usize)
-    ensures last { LastNo uses.old uses.new }
-    ensures used { RightUsed uses.new number right.now }
+    ensures { AreNoted uses.old uses.new number right.now }
 {
     match right {
         Right::Copy(a) => note_atom(uses, a, number),
@@ -65,8 +59,7 @@ fn note_right(uses: &mut [usize], right: &Right<usize, usize>, number: usize)
 
 #[tactic(auto, using(crate::proofs::FirstUses::right_later))]
 fn note_instruction(uses: &mut [usize], instruction: &Instruction, number: usize)
-    ensures last { LastNo uses.old uses.new }
-    ensures right { RightUsed uses.new number instruction.now.right }
+    ensures right { AreNoted uses.old uses.new number instruction.now.right }
     ensures target { slice_index uses.new instruction.now.target ≤ number }
 {
     note_right(uses, &instruction.right, number);

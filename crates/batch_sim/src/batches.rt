@@ -20,7 +20,7 @@ use std::alloc::Global;
 use std::marker::Model;
 
 /// A netlist with the contents of its registers and arrays, clocked many clocks at a time.
-#[derive(Debug, Drop)]
+#[derive(Drop)]
 pub struct Batches {
     // its contents mean nothing between the calls
     pub(crate) sim: Sim,

@@ -2,7 +2,7 @@
 
 // How many pieces are left clock by clock: after one that could not be made over rows one, and twice as many and one more after
 // each further one, up to 63.
-#[derive(Clone, Copy, Debug)]
+#[derive(Clone, Copy)]
 pub struct Pause {
     left: u32,
     last: u32,

@@ -21,7 +21,7 @@ use batch_guess::{Piece, RowGuess, Stored};
 use cycle_sim::{Out, Sim};
 
 // The rows of a module, and room in which they are judged.
-#[derive(Debug, Drop)]
+#[derive(Drop)]
 pub struct Rows {
     pub guess: RowGuess,
     pub room: PassRoom,

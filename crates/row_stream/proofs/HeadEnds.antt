@@ -17,7 +17,7 @@ use Rattle.pgm_rounds.specs.declared.fault.FileFault.{FileFault}
 use Rattle.pgm_rounds.specs.Files.{HasSize, Refused}
 use Rattle.pgm_rounds.proofs.Digits.{range_within}
 use Rattle.row_stream.specs.Heads.{IsUndecidedBefore, TakesHead, RefusesHead}
-use Rattle.row_stream.specs.HeadReading.{IsNoHead, decided, ended, MissesHead}
+use Rattle.row_stream.specs.HeadReading.{IsNoHead, decided, ended, IsRefusal, MissesHead}
 
 -- a prefix of bytes that begin a header and hold none whole
 pub undecided_before : (bytes : List ℕ) → Undecided bytes → IsUndecidedBefore bytes
@@ -81,6 +81,14 @@ at_end (Some (x ∷ xs)) more e f = absurd (let z : ⊥ = cc in z)
 
 not_more : (f : HeaderFault) → ◌≡◌ {A = Scan} (Fault f) More → ⊥
 not_more f e = cc
+
+-- bytes that begin no header have this fault
+pub refusal_of : (may_end : Rattle.std.specs.Prelude.Bool) (f : HeaderFault) (old new : Input) → MissesHead may_end f old new → IsRefusal f
+refusal_of may_end f old new h = shown h.why
+  where
+    shown : IsNoHead h.read f new → IsRefusal f
+    shown (decided a) = (h.read, a.0)
+    shown (ended r e) = (h.read, r)
 
 -- a fault on the bytes that were read is the fault on these with all that follows
 pub no_head_stays : (read : List ℕ) (f : HeaderFault) (new : Input) (more : List ℕ) → IsNoHead read f new → new.rest ≡ Some more → Refuses (read ++ more) f

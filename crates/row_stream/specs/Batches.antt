@@ -1,11 +1,11 @@
 -- The clocks of a line.
-use Rattle.std.specs.Prelude.{◌≡◌, ℕ, ◌≤◌, true, List, All, length, map, replicate}
+use Rattle.std.specs.Prelude.{◌≡◌, ℕ, ◌≤◌, true, List, [], ◌∷◌, All, length, map, replicate}
 use Rattle.std.specs.List.{AllZip}
 use Rattle.wiring.specs.Netlist.{Netlist}
-use Rattle.wiring.specs.Snapshot.{Contents, Snapshot}
+use Rattle.wiring.specs.Snapshot.{Contents, Snapshot, Fit}
 use Rattle.wiring.specs.Runs.{Runs}
 use Rattle.cycle_sim.specs.declared.ports.Out.{Out}
-use Rattle.cycle_sim.specs.Ports.{IsShown}
+use Rattle.cycle_sim.specs.Ports.{din_widths, IsShown}
 use Rattle.row_stream.specs.declared.batch.Batch.{Batch}
 use Rattle.row_stream.specs.Lines.{Kind}
 use Rattle.row_stream.specs.Standing.{IsOneToOne, Lasts, pixel_clock}
@@ -23,3 +23,10 @@ pub record Ran (m : Netlist) (dins : List ℕ) (from to : Contents) (outs : List
   pub shown : AllZip (λ s out. IsShown s 0 out) shots outs
   pub small : (kind : Kind) → IsOneToOne kind m → All (λ out. out.dout ≤ kind.maxval) outs
   pub lasts : Lasts m to
+
+-- A module of one din and one output can take a clock for each of these numbers, and no later clock stops.
+pub record CanStep (m : Netlist) (dins : List ℕ) (from : Contents) : Type 0 where
+  pub outputs : length m.outputs ≡ 2
+  pub one_din : length (din_widths m) ≡ 1
+  pub fit : All (λ d. Fit (din_widths m) (d ∷ [])) dins
+  pub lasts : Lasts m from

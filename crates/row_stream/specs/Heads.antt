@@ -1,7 +1,7 @@
 -- The header that comes next, taken byte by byte.
 use Rattle.std.specs.Prelude.{◌≡◌, ℕ, ◌<◌, ◌≤◌, ◌-◌, ◌^◌, ◌++◌, Bool, true, List, length, take, Some}
 use Rattle.std.specs.Io.KnownBytes.{prepend_known, IsAtEnd}
-use Rattle.dk_desk.specs.Outside.{Input}
+use Rattle.dk_desk.specs.Outside.{Outside, Input}
 use Rattle.pgm_codec.specs.declared.header.Header.{Header}
 use Rattle.pgm_codec.specs.declared.scan.Scan.TheVariants.{Done, More}
 use Rattle.pgm_codec.specs.Answers.{Answers, Undecided}
@@ -34,6 +34,18 @@ pub record FitsHeader (size : Size) (bits : ℕ) (header : Header) : Type 0 wher
   pub sized : HasSize size header
   pub maxval : header.maxval ≤ 2 ^ bits - 1
   pub length : header.length ≤ MAX_HEADER_BYTES
+
+-- the header of an image that fits was read, and no byte after it
+pub record TakesFitting (size : Size) (bits : ℕ) (old new : Input) (header : Header) : Type 0 where
+  pub takes : TakesHead header old new
+  pub fits : FitsHeader size bits header
+
+-- The input ended before a header, where it may, and nothing was read.
+pub record HasEnded (allowed : Bool) (before now : Outside) : Type 0 where
+  pub end : IsAtEnd now.image.rest
+  pub whole : IsAtEnd before.image.rest
+  pub same : now ≡ before
+  pub may_end : allowed ≡ true
 
 -- Bytes were read that with all that is left do not begin with a header of an image that fits, at this offset of the file. They end with the byte that shows it, or with the file inside a header.
 pub record RefusesHead (size : Size) (bits offset : ℕ) (may_end : Bool) (fault : FileFault) (old new : Input) : Type 0 where

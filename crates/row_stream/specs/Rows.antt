@@ -1,7 +1,9 @@
 -- Why a line was not read.
-use Rattle.std.specs.Prelude.{◌≡◌, ℕ, ◌<◌, ◌≤◌, List, length, Err}
+use Rattle.std.specs.Prelude.{◌≡◌, ℕ, ◌*◌, ◌<◌, ◌≤◌, List, length, Err}
 use Rattle.std.specs.Io.KnownBytes.{prepend_known, IsAtEnd}
-use Rattle.dk_desk.specs.Outside.{Input}
+use Rattle.dk_base.specs.declared.TheConstants.{MAX_SIDE}
+use Rattle.dk_desk.specs.declared.Stage.TheVariants.{Open}
+use Rattle.dk_desk.specs.Outside.{Outside, Input}
 use Rattle.dk_desk.specs.Calls.{LosesFewer}
 use Rattle.pgm_codec.specs.declared.header.Header.{Header}
 use Rattle.pgm_codec.specs.declared.raster.RasterFault.{RasterFault}
@@ -10,6 +12,13 @@ use Rattle.row_stream.specs.declared.rows.RowsFault.{RowsFault}
 use Rattle.row_stream.specs.declared.rows.RowsFault.TheVariants.{Raster, Read, Write}
 use Rattle.row_stream.specs.declared.faults.StreamFault.{StreamFault}
 use Rattle.row_stream.specs.declared.faults.StreamFault.TheVariants.{Image as ImageFails, Read as ReadFails, Write as WriteFails}
+
+-- The line of this number can be read into room for this many bytes.
+pub record CanReadRow (header : Header) (number places : ℕ) (o : Outside) : Type 0 where
+  pub opened : o.image.stage ≡ Open
+  pub width : header.width ≤ MAX_SIDE
+  pub row : number < header.height
+  pub room : 2 * header.width ≤ places
 
 -- A line was read that is not a line of the image. More bytes follow only if it is whole.
 pub record IsRowRefused (header : Header) (row : ℕ) (f : RasterFault) (old new : Input) : Type 0 where

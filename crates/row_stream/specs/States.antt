@@ -1,6 +1,7 @@
 -- The state of a stream between two calls.
-use Rattle.std.specs.Prelude.{◌≡◌, ℕ, ◌+◌, ◌-◌, ◌*◌, ◌^◌, ◌<◌, ◌≤◌, List, [], ◌∷◌, length, take}
+use Rattle.std.specs.Prelude.{◌≡◌, ℕ, ◌+◌, ◌-◌, ◌*◌, ◌^◌, ◌<◌, ◌≤◌, List, [], ◌∷◌, length, take, Result, OnOk, OnErr, IsErr}
 use Rattle.dk_base.specs.declared.TheConstants.{MAX_PORT_WIDTH}
+use Rattle.dk_base.specs.FrameSizes.{size_of}
 use Rattle.dk_desk.specs.declared.Stage.TheVariants.{Open}
 use Rattle.dk_desk.specs.Outside.{Outside}
 use Rattle.wiring.specs.Netlist.{Netlist}
@@ -16,7 +17,9 @@ use Rattle.row_stream.specs.Lines.{Kind}
 use Rattle.row_stream.specs.Formats.{kind_of}
 use Rattle.row_stream.specs.Standing.{HasRoom, IsOneToOne, Lasts}
 use Rattle.row_stream.specs.Batches.{HasBatch}
-use Rattle.row_stream.specs.Progress.{Goes, Fails, pixel_clocks}
+use Rattle.row_stream.specs.Heads.{FitsHeader}
+use Rattle.row_stream.specs.Calls.{OnlyWrites}
+use Rattle.row_stream.specs.Progress.{AddsSamples, FailsAdding, Goes, Fails, pixel_clocks}
 use Rattle.row_stream.specs.RowReading.{samples_in}
 
 -- Samples can be added: File is open, and there is room for the rest of the line that is begun.
@@ -30,6 +33,13 @@ pub record CanAddMore (most : ℕ) (format : OutputFormat) (old new : Line) (now
   pub created : now.file.stage ≡ Open
   pub room : HasRoom format.size.width new
   pub few : new.rows ≤ old.rows + most
+
+-- These samples were added, and the line that is whole then was written, or its write failed.
+pub record AddsOrFails {T E : Type 0} (result : Result T E) (format : OutputFormat) (samples : List ℕ) (old new : Line) (before now : Outside) : Type 0 where
+  pub more : OnOk result (CanAddMore 1 format old new now)
+  pub ok : OnOk result (AddsSamples (kind_of format) samples old new before now)
+  pub err : OnErr result (FailsAdding (kind_of format) samples old before now)
+  pub desk : OnlyWrites (IsErr result) before now
 
 -- What no call of a stream changes: the images that are written, the module, and the width of its din.
 pub record Setting : Type 0 where
@@ -55,6 +65,13 @@ pub record IsReady (s : Stream) (o : Outside) : Type 0 where
   pub created : o.file.stage ≡ Open
   pub lasts : Lasts s.sim.netlist s.sim.contents
 
+-- The lines of an image with this header can be read and clocked. Fewer lines than `most` were made so far.
+pub record CanStream (most : ℕ) (s : Stream) (next : Header) (o : Outside) : Type 0 where
+  pub opened : o.image.stage ≡ Open
+  pub ready : IsReady s o
+  pub few : s.line.rows < most
+  pub header : FitsHeader (size_of s.format.size) s.bits next
+
 -- What every call keeps, also one that fails.
 pub record Keeps (old new : Stream) : Type 0 where
   pub setting : setting_of new ≡ setting_of old
@@ -73,6 +90,14 @@ GoesThrough clocks old new before now = Goes (kind_of old.format) old.sim.netlis
 -- In one of these clocks a line is whole that can't be written.
 abbrev pub FailsWithin : List Clock → Stream → (before now : Outside) → Type 0
 FailsWithin clocks old before now = Fails (kind_of old.format) old.sim.netlist clocks old.sim.contents old.line before now
+
+-- The module goes through these clocks, or a write fails in one of them. At most `most` lines are made.
+pub record ClocksOrFails {T E : Type 0} (result : Result T E) (most : ℕ) (clocks : List Clock) (old new : Stream) (before now : Outside) : Type 0 where
+  pub keeps : Keeps old new
+  pub more : OnOk result (CanGoOn most old new now)
+  pub ok : OnOk result (GoesThrough clocks old new before now)
+  pub err : OnErr result (FailsWithin clocks old before now)
+  pub desk : OnlyWrites (IsErr result) before now
 
 -- the line that was read, as an image with this header has it
 abbrev pub row_of : Header → Stream → List ℕ

@@ -7,8 +7,7 @@ ghost use Rattle.wiring.specs.Clock.{given, Steps, Stops};
 ghost use Rattle.cycle_sim.specs.Ports.{din_widths, IsShown};
 ghost use Rattle.pgm_codec.specs.Images.{sample_size};
 ghost use Rattle.pgm_codec.specs.Rasters.{sample_at};
-ghost use Rattle.row_stream.specs.Standing.{Lasts};
-ghost use Rattle.row_stream.specs.Batches.{HasBatch, Ran};
+ghost use Rattle.row_stream.specs.Batches.{HasBatch, CanStep, Ran};
 
 use batch_sim::Batches;
 use cycle_sim::{IndexRange, Out};
@@ -45,10 +44,7 @@ impl Batch {
     // The first `count` clocks, in one call.
     pub(crate) fn step(&mut self, sim: &mut Batches, count: usize)
         requires room { (width : ℕ) × HasBatch width self.old × (count ≤ width) }
-        requires outputs { length sim.old.netlist.outputs ≡ 2 }
-        requires one_din { length (din_widths sim.old.netlist) ≡ 1 }
-        requires fit { All (λ d. Fit (din_widths sim.old.netlist) (d ∷ [])) self.old.dins.items }
-        requires lasts { Lasts sim.old.netlist sim.old.contents }
+        requires can { CanStep sim.old.netlist self.old.dins.items sim.old.contents }
         ensures netlist { sim.new.netlist ≡ sim.old.netlist }
         ensures batch { (width : ℕ) → HasBatch width self.old → HasBatch width self.new }
         ensures dins { self.new.dins.items ≡ self.old.dins.items }
@@ -70,12 +66,9 @@ impl Batch {
 
 // A clock for each of these numbers at the din, in one call.
 fn step_exact(sim: &mut Batches, enables: &[bool], dins: &[u64], outs: &mut [Out])
-    requires outputs { length sim.old.netlist.outputs ≡ 2 }
-    requires one_din { length (din_widths sim.old.netlist) ≡ 1 }
+    requires can { CanStep sim.old.netlist dins.now sim.old.contents }
     requires enables { enables.now ≡ replicate (length dins.now) true }
     requires outs { length outs.old ≡ length dins.now }
-    requires fit { All (λ d. Fit (din_widths sim.old.netlist) (d ∷ [])) dins.now }
-    requires lasts { Lasts sim.old.netlist sim.old.contents }
     ensures netlist { sim.new.netlist ≡ sim.old.netlist }
     ensures outs { length outs.new ≡ length outs.old }
     ensures ran { Ran sim.old.netlist dins.now sim.old.contents sim.new.contents outs.new }
@@ -90,12 +83,9 @@ fn step_exact(sim: &mut Batches, enables: &[bool], dins: &[u64], outs: &mut [Out
 
 // `step_exact` with room for more outputs.
 fn step_within(sim: &mut Batches, enables: &[bool], dins: &[u64], outs: &mut [Out])
-    requires outputs { length sim.old.netlist.outputs ≡ 2 }
-    requires one_din { length (din_widths sim.old.netlist) ≡ 1 }
+    requires can { CanStep sim.old.netlist dins.now sim.old.contents }
     requires enables { enables.now ≡ replicate (length dins.now) true }
     requires outs { length dins.now ≤ length outs.old }
-    requires fit { All (λ d. Fit (din_widths sim.old.netlist) (d ∷ [])) dins.now }
-    requires lasts { Lasts sim.old.netlist sim.old.contents }
     ensures netlist { sim.new.netlist ≡ sim.old.netlist }
     ensures outs { length outs.new ≡ length outs.old }
     ensures ran { Ran sim.old.netlist dins.now sim.old.contents sim.new.contents (take (length dins.now) outs.new) }
@@ -106,12 +96,9 @@ fn step_within(sim: &mut Batches, enables: &[bool], dins: &[u64], outs: &mut [Ou
 
 // The same for a vector.
 fn step_front(sim: &mut Batches, enables: &[bool], dins: &[u64], outs: &mut Vec<Out>)
-    requires outputs { length sim.old.netlist.outputs ≡ 2 }
-    requires one_din { length (din_widths sim.old.netlist) ≡ 1 }
+    requires can { CanStep sim.old.netlist dins.now sim.old.contents }
     requires enables { enables.now ≡ replicate (length dins.now) true }
     requires outs { length dins.now ≤ length outs.old.items }
-    requires fit { All (λ d. Fit (din_widths sim.old.netlist) (d ∷ [])) dins.now }
-    requires lasts { Lasts sim.old.netlist sim.old.contents }
     ensures netlist { sim.new.netlist ≡ sim.old.netlist }
     ensures outs { length outs.new.items ≡ length outs.old.items }
     ensures ran { Ran sim.old.netlist dins.now sim.old.contents sim.new.contents (take (length dins.now) outs.new.items) }

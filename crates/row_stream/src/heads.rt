@@ -3,11 +3,11 @@
 ghost use Rattle.std.specs.Prelude.{◌≡◌, ℕ, ◌^◌, ◌<◌, ◌≤◌, List, [], Ok, Err, None, true, IfOk, IfErr, IfSome, OnOk};
 ghost use Rattle.std.specs.Io.KnownBytes.{prepend_known, IsAtEnd};
 ghost use Rattle.dk_desk.specs.Outside.{Outside, Input};
-ghost use Rattle.dk_desk.specs.Calls.{HasCauseIn, ReadsOnly};
 ghost use Rattle.dk_base.specs.declared.TheConstants.{MAX_PORT_WIDTH};
 ghost use Rattle.dk_base.specs.FrameSizes.{size_of};
-ghost use Rattle.row_stream.specs.Heads.{TakesHead, FitsHeader, EndsHeading};
+ghost use Rattle.row_stream.specs.Heads.{TakesHead, TakesFitting, HasEnded, EndsHeading};
 ghost use Rattle.row_stream.specs.HeadReading.{EndsHead};
+ghost use Rattle.row_stream.specs.Calls.{OnlyReads};
 
 use crate::faults::{StreamFault, check_header, header_fault};
 use dk_base::{FrameSize, MAX_HEADER_BYTES};
@@ -28,8 +28,7 @@ pub(crate) fn next_byte<D: Desk>(desk: &mut D) -> Result<Option<u8>, Failed>
         ≡ prepend_known (Rattle.std.specs.Prelude.option_to_list next) (D.outside desk.new).image.rest) }
     ensures end { result ≡ Ok None → IsAtEnd (D.outside desk.new).image.rest }
     ensures stays { Rattle.std.specs.Prelude.OnErr result ((D.outside desk.old).image.rest ≡ (D.outside desk.new).image.rest) }
-    ensures only { ReadsOnly InSlot.Image (D.outside desk.old) (D.outside desk.new) }
-    ensures cause { HasCauseIn (Rattle.std.specs.Prelude.IsErr result) (D.outside desk.old).input_failures (D.outside desk.new).input_failures }
+    ensures desk { OnlyReads (Rattle.std.specs.Prelude.IsErr result) (D.outside desk.old) (D.outside desk.new) }
 {
     let mut byte = [0u8; 1];
     match desk.read(InSlot::Image, &mut byte) {
@@ -43,13 +42,9 @@ pub(crate) fn next_byte<D: Desk>(desk: &mut D) -> Result<Option<u8>, Failed>
 pub(crate) fn next_head<D: Desk>(desk: &mut D, may_end: bool) -> Result<Option<Header>, HeadFault>
     requires { (D.outside desk.old).image.stage ≡ Stage.Open }
     ensures ok { IfOk result (λ next. IfSome next (λ header. TakesHead header (D.outside desk.old).image (D.outside desk.new).image)) }
-    ensures end { result ≡ Ok None → IsAtEnd (D.outside desk.new).image.rest }
-    ensures whole { result ≡ Ok None → IsAtEnd (D.outside desk.old).image.rest }
-    ensures same { result ≡ Ok None → D.outside desk.new ≡ D.outside desk.old }
-    ensures may_end { result ≡ Ok None → may_end ≡ true }
+    ensures none { result ≡ Ok None → HasEnded may_end (D.outside desk.old) (D.outside desk.new) }
     ensures err { IfErr result (λ e. EndsHead may_end e (D.outside desk.old).image (D.outside desk.new).image) }
-    ensures only { ReadsOnly InSlot.Image (D.outside desk.old) (D.outside desk.new) }
-    ensures cause { HasCauseIn (result ≡ Err HeadFault.Read) (D.outside desk.old).input_failures (D.outside desk.new).input_failures }
+    ensures desk { OnlyReads (result ≡ Err HeadFault.Read) (D.outside desk.old) (D.outside desk.new) }
 {
     pgm_codec::one_reading_law();
     let mut scan = HeaderScan::new();
@@ -83,14 +78,10 @@ pub(crate) fn next_image<D: Desk>(
     requires opened { (D.outside desk.old).image.stage ≡ Stage.Open }
     requires bits { bits ≤ MAX_PORT_WIDTH }
     requires offset { offset < 2 ^ 62 }
-    ensures ok { IfOk result (λ next. IfSome next (λ header. TakesHead header (D.outside desk.old).image (D.outside desk.new).image)) }
-    ensures fits { IfOk result (λ next. IfSome next (FitsHeader (size_of size) bits)) }
-    ensures whole { result ≡ Ok None → IsAtEnd (D.outside desk.new).image.rest }
-    ensures same { result ≡ Ok None → D.outside desk.new ≡ D.outside desk.old }
-    ensures may_end { result ≡ Ok None → may_end ≡ true }
+    ensures ok { IfOk result (λ next. IfSome next (TakesFitting (size_of size) bits (D.outside desk.old).image (D.outside desk.new).image)) }
+    ensures none { result ≡ Ok None → HasEnded may_end (D.outside desk.old) (D.outside desk.new) }
     ensures err { IfErr result (λ f. EndsHeading (size_of size) bits offset may_end f (D.outside desk.old).image (D.outside desk.new).image) }
-    ensures only { ReadsOnly InSlot.Image (D.outside desk.old) (D.outside desk.new) }
-    ensures cause { HasCauseIn (result ≡ Err StreamFault.Read) (D.outside desk.old).input_failures (D.outside desk.new).input_failures }
+    ensures desk { OnlyReads (result ≡ Err StreamFault.Read) (D.outside desk.old) (D.outside desk.new) }
 {
     match next_head(desk, may_end) {
         Err(HeadFault::Read) => Err(StreamFault::Read),

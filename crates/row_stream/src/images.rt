@@ -1,19 +1,17 @@
 //! The images of a file, one after another.
 
-ghost use Rattle.std.specs.Prelude.{◌≡◌, ℕ, ◌+◌, ◌*◌, ◌^◌, ◌<◌, ◌≤◌, Ok, Err, None, IfOk, IfErr, IfSome, OnOk};
-ghost use Rattle.std.specs.Io.KnownBytes.{IsAtEnd};
+ghost use Rattle.std.specs.Prelude.{true, ◌≡◌, ℕ, ◌+◌, ◌*◌, ◌^◌, ◌<◌, ◌≤◌, Ok, Err, None, IfOk, IfErr, IfSome, OnOk};
 ghost use Rattle.dk_base.specs.declared.TheConstants.{MAX_FILE_IMAGES, MAX_PORT_WIDTH, MAX_SIDE};
 ghost use Rattle.dk_base.specs.FrameSizes.{size_of};
 ghost use Rattle.dk_desk.specs.Outside.{Input};
-ghost use Rattle.dk_desk.specs.Calls.{HasCauseIn, ReadsOnly};
 ghost use Rattle.pgm_codec.specs.Rasters.{row_length};
 ghost use Rattle.row_stream.specs.Formats.{kind_of};
 ghost use Rattle.row_stream.specs.RowReading.{Streams};
-ghost use Rattle.row_stream.specs.Heads.{TakesHead, FitsHeader};
+ghost use Rattle.row_stream.specs.Heads.{TakesHead, TakesFitting, HasEnded};
 ghost use Rattle.row_stream.specs.Ends.{EndsNext};
 ghost use Rattle.row_stream.specs.ImageReading.{EndsImage, EndsImages, StreamsAll, unread};
-ghost use Rattle.row_stream.specs.Calls.{ReadsAndWrites};
-ghost use Rattle.row_stream.specs.States.{IsReady, Keeps, CanGoOn};
+ghost use Rattle.row_stream.specs.Calls.{OnlyReads, ReadsAndWrites};
+ghost use Rattle.row_stream.specs.States.{CanStream, IsReady, Keeps, CanGoOn};
 
 use crate::faults::{StreamFault, raster_fault};
 use crate::heads::{next_byte, next_image};
@@ -47,14 +45,11 @@ fn further_image<D: Desk>(
     requires bits { bits ≤ MAX_PORT_WIDTH }
     requires images { images ≤ MAX_FILE_IMAGES }
     requires offset { offset < 2 ^ 62 }
-    ensures ok { IfOk result (λ next. IfSome next (λ header. TakesHead header (D.outside desk.old).image (D.outside desk.new).image)) }
-    ensures fits { IfOk result (λ next. IfSome next (FitsHeader (size_of size) bits)) }
+    ensures ok { IfOk result (λ next. IfSome next (TakesFitting (size_of size) bits (D.outside desk.old).image (D.outside desk.new).image)) }
     ensures few { IfOk result (λ next. IfSome next (λ _. images < MAX_FILE_IMAGES)) }
-    ensures whole { result ≡ Ok None → IsAtEnd (D.outside desk.new).image.rest }
-    ensures same { result ≡ Ok None → D.outside desk.new ≡ D.outside desk.old }
+    ensures none { result ≡ Ok None → HasEnded true (D.outside desk.old) (D.outside desk.new) }
     ensures err { IfErr result (λ f. EndsNext (size_of size) bits images offset f (D.outside desk.old).image (D.outside desk.new).image) }
-    ensures only { ReadsOnly InSlot.Image (D.outside desk.old) (D.outside desk.new) }
-    ensures cause { HasCauseIn (result ≡ Err StreamFault.Read) (D.outside desk.old).input_failures (D.outside desk.new).input_failures }
+    ensures desk { OnlyReads (result ≡ Err StreamFault.Read) (D.outside desk.old) (D.outside desk.new) }
 {
     if images < MAX_FILE_IMAGES {
         return next_image(desk, size, bits, offset, true);
@@ -74,11 +69,8 @@ impl Stream {
         images: u64,
         header: &Header,
     ) -> Result<(), StreamFault>
-        requires opened { (D.outside desk.old).image.stage ≡ Stage.Open }
-        requires ready { IsReady self.old (D.outside desk.old) }
+        requires can { CanStream (2 ^ 60) self.old header.now (D.outside desk.old) }
         requires images { images < MAX_FILE_IMAGES }
-        requires few { self.old.line.rows < 2 ^ 60 }
-        requires header { FitsHeader (size_of self.old.format.size) self.old.bits header.now }
         ensures keeps { Keeps self.old self.new }
         ensures more { OnOk result (CanGoOn (MAX_SIDE * MAX_SIDE) self.old self.new (D.outside desk.new)) }
         ensures ok { OnOk result (Streams (kind_of self.old.format) self.old.sim.netlist header.now header.now.height
@@ -104,10 +96,7 @@ impl Stream {
         desk: &mut D,
         first: Header,
     ) -> Result<(), StreamFault>
-        requires opened { (D.outside desk.old).image.stage ≡ Stage.Open }
-        requires ready { IsReady self.old (D.outside desk.old) }
-        requires few { self.old.line.rows ≤ 1 }
-        requires first { FitsHeader (size_of self.old.format.size) self.old.bits first }
+        requires { CanStream 2 self.old first (D.outside desk.old) }
         ensures keeps { Keeps self.old self.new }
         ensures ready { OnOk result (IsReady self.new (D.outside desk.new)) }
         ensures few { OnOk result (self.new.line.rows < 2 ^ 60) }

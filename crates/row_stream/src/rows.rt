@@ -4,14 +4,13 @@ ghost use Rattle.std.specs.Prelude.{◌≡◌, ℕ, ◌*◌, ◌^◌, ◌<◌, �
 ghost use Rattle.std.specs.Io.KnownBytes.{prepend_known};
 ghost use Rattle.dk_base.specs.declared.TheConstants.{MAX_SIDE};
 ghost use Rattle.dk_base.specs.FrameSizes.{size_of};
-ghost use Rattle.dk_desk.specs.Calls.{HasCauseIn, ReadsOnly};
 ghost use Rattle.pgm_codec.specs.Rasters.{JudgesRow, row_length};
 ghost use Rattle.row_stream.specs.Formats.{kind_of};
 ghost use Rattle.row_stream.specs.Heads.{FitsHeader};
-ghost use Rattle.row_stream.specs.Rows.{IsRowFault};
+ghost use Rattle.row_stream.specs.Rows.{CanReadRow, IsRowFault};
 ghost use Rattle.row_stream.specs.RowReading.{TakesRow, Streams, EndsRow, EndsRows};
-ghost use Rattle.row_stream.specs.Calls.{ReadsAndWrites};
-ghost use Rattle.row_stream.specs.States.{IsReady, Keeps, CanGoOn};
+ghost use Rattle.row_stream.specs.Calls.{OnlyReads, ReadsAndWrites};
+ghost use Rattle.row_stream.specs.States.{CanStream, Keeps, CanGoOn};
 
 use crate::state::Stream;
 use dk_desk::transfer::read_full;
@@ -44,8 +43,7 @@ fn read_row<D: Desk>(
     ensures judged { OnOk result (JudgesRow to.new header.now row (Ok tt)) }
     ensures bytes { (k : ℕ) → slice_index to.new k < 256 }
     ensures fault { IfErr result (λ e. IsRowFault header.now row e (D.outside desk.old).image (D.outside desk.new).image) }
-    ensures only { ReadsOnly InSlot.Image (D.outside desk.old) (D.outside desk.new) }
-    ensures cause { HasCauseIn (result ≡ Err RowsFault.Read) (D.outside desk.old).input_failures (D.outside desk.new).input_failures }
+    ensures desk { OnlyReads (result ≡ Err RowsFault.Read) (D.outside desk.old) (D.outside desk.new) }
 {
     match read_full(desk, InSlot::Image, to) {
         Err(_) => Err(RowsFault::Read),
@@ -76,15 +74,11 @@ fn read_within<D: Desk>(
     row: u32,
     to: &mut [u8],
 ) -> Result<(), RowsFault>
-    requires opened { (D.outside desk.old).image.stage ≡ Stage.Open }
-    requires width { header.now.width ≤ MAX_SIDE }
-    requires row { row < header.now.height }
-    requires room { 2 * header.now.width ≤ length to.old }
+    requires { CanReadRow header.now row (length to.old) (D.outside desk.old) }
     ensures room { length to.new ≡ length to.old }
     ensures ok { OnOk result (TakesRow header.now row (take (row_length header.now) to.new) (D.outside desk.old).image (D.outside desk.new).image) }
     ensures fault { IfErr result (λ e. IsRowFault header.now row e (D.outside desk.old).image (D.outside desk.new).image) }
-    ensures only { ReadsOnly InSlot.Image (D.outside desk.old) (D.outside desk.new) }
-    ensures cause { HasCauseIn (result ≡ Err RowsFault.Read) (D.outside desk.old).input_failures (D.outside desk.new).input_failures }
+    ensures desk { OnlyReads (result ≡ Err RowsFault.Read) (D.outside desk.old) (D.outside desk.new) }
 {
     let count = row_bytes(header);
     read_row(desk, header, row, &mut to[..count])
@@ -97,15 +91,11 @@ fn read_front<D: Desk>(
     row: u32,
     to: &mut Vec<u8>,
 ) -> Result<(), RowsFault>
-    requires opened { (D.outside desk.old).image.stage ≡ Stage.Open }
-    requires width { header.now.width ≤ MAX_SIDE }
-    requires row { row < header.now.height }
-    requires room { 2 * header.now.width ≤ length to.old.items }
+    requires { CanReadRow header.now row (length to.old.items) (D.outside desk.old) }
     ensures room { length to.new.items ≡ length to.old.items }
     ensures ok { OnOk result (TakesRow header.now row (take (row_length header.now) to.new.items) (D.outside desk.old).image (D.outside desk.new).image) }
     ensures fault { IfErr result (λ e. IsRowFault header.now row e (D.outside desk.old).image (D.outside desk.new).image) }
-    ensures only { ReadsOnly InSlot.Image (D.outside desk.old) (D.outside desk.new) }
-    ensures cause { HasCauseIn (result ≡ Err RowsFault.Read) (D.outside desk.old).input_failures (D.outside desk.new).input_failures }
+    ensures desk { OnlyReads (result ≡ Err RowsFault.Read) (D.outside desk.old) (D.outside desk.new) }
 {
     read_within(desk, header, row, to)
 }
@@ -118,10 +108,7 @@ impl Stream {
         header: &Header,
         row: u32,
     ) -> Result<(), RowsFault>
-        requires opened { (D.outside desk.old).image.stage ≡ Stage.Open }
-        requires ready { IsReady self.old (D.outside desk.old) }
-        requires few { self.old.line.rows < 2 ^ 61 }
-        requires header { FitsHeader (size_of self.old.format.size) self.old.bits header.now }
+        requires can { CanStream (2 ^ 61) self.old header.now (D.outside desk.old) }
         requires row { row < header.now.height }
         ensures keeps { Keeps self.old self.new }
         ensures more { OnOk result (CanGoOn self.old.format.size.width self.old self.new (D.outside desk.new)) }
@@ -144,10 +131,7 @@ impl Stream {
         desk: &mut D,
         header: &Header,
     ) -> Result<(), RowsFault>
-        requires opened { (D.outside desk.old).image.stage ≡ Stage.Open }
-        requires ready { IsReady self.old (D.outside desk.old) }
-        requires few { self.old.line.rows < 2 ^ 60 }
-        requires header { FitsHeader (size_of self.old.format.size) self.old.bits header.now }
+        requires { CanStream (2 ^ 60) self.old header.now (D.outside desk.old) }
         ensures keeps { Keeps self.old self.new }
         ensures more { OnOk result (CanGoOn (MAX_SIDE * MAX_SIDE) self.old self.new (D.outside desk.new)) }
         ensures ok { OnOk result (Streams (kind_of self.old.format) self.old.sim.netlist header.now header.now.height

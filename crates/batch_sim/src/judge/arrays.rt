@@ -16,7 +16,7 @@ use lane_rows::{
 use wiring::Atom;
 
 // Spare rows for the constants among an array's indexes and values.
-#[derive(Debug, Drop)]
+#[derive(Drop)]
 pub struct ArrayRoom {
     pub read: Vec<u64>,
     pub index: Vec<u64>,
@@ -25,7 +25,7 @@ pub struct ArrayRoom {
 }
 
 // Room in which arrays are judged one after another: spare rows, and one for what is read.
-#[derive(Debug, Drop)]
+#[derive(Drop)]
 pub struct PassRoom {
     pub spares: ArrayRoom,
     pub to: Vec<u64>,

@@ -16,7 +16,7 @@ returns-clause-table c =
     let len : old.rows.len ≡ length old.rows.items = search rules in
     let same : c.deref_mut.result.now ≡ old.rows.items = search rules in
     table_with widths code long record { rows = Rattle.std.specs.Vec.with_items old.rows rows; room = old.room; narrow = old.narrow; middle = old.middle; rooms = c.run_code.new.rooms } c.args.upto rows
-    (in_place old.rows.len old.rows.items rows len (c.run_code.ensures.count ∙ ap (λ (l : List Row). length l) same))
-    (subst (λ (n : ℕ). HaveRun widths code n rows c.args.upto) count c.run_code.ensures.ran)
+    (in_place old.rows.len old.rows.items rows len (c.run_code.ensures.run.count ∙ ap (λ (l : List Row). length l) same))
+    (subst (λ (n : ℕ). HaveRun widths code n rows c.args.upto) count c.run_code.ensures.run.ran)
     (record { wide = refl; narrow = c.requires.table.spares.narrow; middle = c.requires.table.spares.middle })
     (subst (λ (n : ℕ). HaveRooms c.run_code.new.rooms n) count c.run_code.ensures.rooms)

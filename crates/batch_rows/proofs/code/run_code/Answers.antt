@@ -9,15 +9,19 @@ use Rattle.batch_rows.specs.Code.{IsSound}
 use Rattle.batch_rows.proofs.Running.{rows_on, hold_on, lanes_on}
 use Rattle.batch_rows.proofs.code.run_code.Goals as goal
 
-pub run_instruction-requires-clause-sized : goal.run_instruction-requires-clause-sized
-run_instruction-requires-clause-sized c =
+pub run_instruction-requires-clause-one : goal.run_instruction-requires-clause-one
+run_instruction-requires-clause-one c =
     let code = c.args.code.now.instructions.now in
     let sizes = c.args.code.now.sizes.now in
     let k = c.loop-k.k in
     let i = c.index-instructions-k.result in
-    let inside : k < length code = omega (arith, c.loop-k-test.true, c.requires.within) in
+    let inside : k < length code = omega (arith, c.loop-k-test.true, c.requires.places.within) in
     let at : slice_get code k ≡ Some i = slice_get_read code (length code) k i refl inside c.index-instructions-k.is in
-    c.requires.code.sized.each k i (slice_index_or sizes k Narrow) at (slice_get-get_or sizes k Narrow (omega (arith, inside, c.requires.code.sized.count)))
+    record {
+      sound = All-at (IsSound c.args.code.now.widths.now) code k i c.requires.code.sound at;
+      sized = c.requires.code.sized.each k i (slice_index_or sizes k Narrow) at (slice_get-get_or sizes k Narrow (omega (arith, inside, c.requires.code.sized.count)));
+      rows = c.loop-k.invariant.run.ran.rows;
+    }
 
 pub loop-k-preserved : goal.loop-k-preserved
 loop-k-preserved c =
@@ -25,7 +29,7 @@ loop-k-preserved c =
     let code = c.args.code.now.instructions.now in
     let k = c.loop-k.k in
     let i = c.index-instructions-k.result in
-    let at : slice_get code k ≡ Some i = slice_get_read code (length code) k i refl (omega (arith, c.loop-k-test.true, c.requires.within)) c.index-instructions-k.is in
+    let at : slice_get code k ≡ Some i = slice_get_read code (length code) k i refl (omega (arith, c.loop-k-test.true, c.requires.places.within)) c.index-instructions-k.is in
     let sound : IsSound widths i = All-at (IsSound widths) code k i c.requires.code.sound at in
     let count = c.args.count in
     let before = c.loop-k.rows in
@@ -33,16 +37,19 @@ loop-k-preserved c =
     let old = values_of before in
     let new = values_of after in
     let row = slice_index_or new i.target [] in
-    let ran = c.loop-k.invariant.ran in
-    let size : length new ≡ length old = length-map after row_values ∙ c.run_instruction.ensures.count ∙ sym (length-map before row_values) in
+    let ran = c.loop-k.invariant.run.ran in
+    let put = c.run_instruction.ensures.put in
+    let size : length new ≡ length old = length-map after row_values ∙ put.count ∙ sym (length-map before row_values) in
     record {
       rooms = c.run_instruction.ensures.rooms;
-      bits = c.run_instruction.ensures.bits ∙ c.loop-k.invariant.bits;
-      count = c.run_instruction.ensures.count ∙ c.loop-k.invariant.count;
-      ran = record {
-        rows = rows_on widths count old ran.rows new i sound size row c.run_instruction.ensures.long refl c.run_instruction.ensures.others c.run_instruction.ensures.row;
-        lanes = lanes_on widths before after c.run_instruction.ensures.count c.run_instruction.ensures.bits ran.lanes;
-        hold = hold_on widths count old ran.rows new i sound size row c.run_instruction.ensures.long refl c.run_instruction.ensures.others c.run_instruction.ensures.row code k c.requires.code.ordered at ran.hold;
+      run = record {
+        bits = put.bits ∙ c.loop-k.invariant.run.bits;
+        count = put.count ∙ c.loop-k.invariant.run.count;
+        ran = record {
+          rows = rows_on widths count old ran.rows new i sound size row put.long refl put.others put.row;
+          lanes = lanes_on widths before after put.count put.bits ran.lanes;
+          hold = hold_on widths count old ran.rows new i sound size row put.long refl put.others put.row code k c.requires.code.ordered at ran.hold;
+        };
+        others = λ n none. put.others n (none k i at) ∙ c.loop-k.invariant.run.others n none;
       };
-      others = λ n none. c.run_instruction.ensures.others n (none k i at) ∙ c.loop-k.invariant.others n none;
     }

@@ -11,9 +11,9 @@ put_row-requires-clause-fits g c = λ t l.
     let widths = c.args.widths.now in
     let rows = c.args.rows.now in
     let i = c.args.instruction.now in
-    let slots : length (values_of rows) ≡ length widths = c.requires.rows.slots in
+    let slots : length (values_of rows) ≡ length widths = c.requires.one.rows.slots in
     let long : length (values_of rows) ≡ length rows = length-map rows row_values in
-    let inside : i.target < length rows = omega (arith, c.requires.sound.target, slots, long) in
-    let same : length c.make_row.new.scratch.to.items ≡ length c.args.scratch.now.to.items = c.make_row.ensures.room in
+    let inside : i.target < length rows = omega (arith, c.requires.one.sound.target, slots, long) in
+    let same : length c.make_row.new.scratch.to.items ≡ length c.args.scratch.now.to.items = c.make_row.ensures.scratch.0 in
     subst (λ (n : ℕ). n < 2 ^ slice_index (map row_bits rows) i.target) (sym (c.make_row.ensures.row t (in_row g.L.Lane.value c.make_row.new.scratch.to.items t l)))
-    (value_narrow widths (length c.args.scratch.now.to.items) (values_of rows) c.requires.rows (slice_index (map row_bits rows) i.target) i c.requires.sound (c.requires.lanes i.target inside) t (omega (arith, l, same)))
+    (value_narrow widths (length c.args.scratch.now.to.items) (values_of rows) c.requires.one.rows (slice_index (map row_bits rows) i.target) i c.requires.one.sound (c.requires.lanes i.target inside) t (omega (arith, l, same)))

@@ -1,13 +1,11 @@
 use Rattle.std.proofs.Common.{◌≡◌, ◌≤◌, ◌∙◌, length, map, arith}
 use Rattle.std.specs.Prelude.{slice_index}
-use Rattle.lane_rows.proofs.LaneRows.{in_row}
 use Rattle.batch_rows.proofs.Masks.{alone_is}
 use Rattle.batch_rows.proofs.pairs.join_row.Goals as goal
 
-pub returns-else-width-bits-clause-each : goal.returns-else-width-bits-clause-each
-returns-else-width-bits-clause-each g c = λ t l.
+pub returns-else-width-bits : goal.returns-else-width-bits
+returns-else-width-bits g c =
     let value = g.L.Lane.value in
     let wide : g.L.Lane.bits ≤ c.args.width = omega (arith, c.if-width-bits.false, c.bits.ensures.bits) in
     let same : length c.pair_row-else-width-bits.new.to ≡ length c.args.to.now = c.pair_row-else-width-bits.ensures.count in
-    c.pair_row-else-width-bits.ensures.each t (in_row value c.pair_row-else-width-bits.new.to t l)
-    ∙ alone_is (slice_index (map value c.args.a.now) t) (slice_index (map value c.args.b.now) t) c.args.width g.L.Lane.bits c.requires.narrow wide (c.requires.fits t (omega (arith, l, same)))
+    record { count = same; each = λ t l. c.pair_row-else-width-bits.ensures.each t l ∙ alone_is (slice_index (map value c.args.a.now) t) (slice_index (map value c.args.b.now) t) c.args.width g.L.Lane.bits c.requires.can.narrow wide (c.requires.can.fits t (omega (arith, l, same))) }

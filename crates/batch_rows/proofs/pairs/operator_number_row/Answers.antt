@@ -1,12 +1,12 @@
-use Rattle.std.proofs.Common.{map}
-use Rattle.batch_rows.proofs.Masks.{sum_number, difference_number, product_number}
+use Rattle.batch_rows.specs.Rows.{number_in}
+use Rattle.batch_rows.proofs.Masks.{sum_row, difference_row, product_row}
 use Rattle.batch_rows.proofs.pairs.operator_number_row.Goals as goal
 
-pub returns-in-Add-clause-each : goal.returns-in-Add-clause-each
-returns-in-Add-clause-each g c = sum_number g.L.Lane.bits (g.L.Lane.value c.mask_of-mask.result) c.args.width c.requires.narrow c.mask_of-mask.ensures c.args.op (map g.L.Lane.value c.with_number.new.to) (map g.L.Lane.value c.args.a.now) (g.L.Lane.value c.args.second) c.in-Add.is c.with_number.ensures.each
+pub returns-in-Add : goal.returns-in-Add
+returns-in-Add g c = sum_row g.L.Lane.value c.args.to.now c.with_number.new.to g.L.Lane.bits (g.L.Lane.value c.mask_of-mask.result) c.args.width c.requires.narrow c.mask_of-mask.ensures c.args.op (number_in g.L.Lane.value c.args.a.now) (λ _. g.L.Lane.value c.args.second) c.in-Add.is c.with_number.ensures
 
-pub returns-in-Subtract-clause-each : goal.returns-in-Subtract-clause-each
-returns-in-Subtract-clause-each g c = difference_number g.L.Lane.bits (g.L.Lane.value c.mask_of-mask.result) c.args.width c.requires.narrow c.mask_of-mask.ensures c.args.op (map g.L.Lane.value c.with_number-in-Subtract.new.to) (map g.L.Lane.value c.args.a.now) (g.L.Lane.value c.args.second) c.in-Subtract.is c.with_number-in-Subtract.ensures.each
+pub returns-in-Subtract : goal.returns-in-Subtract
+returns-in-Subtract g c = difference_row g.L.Lane.value c.args.to.now c.with_number-in-Subtract.new.to g.L.Lane.bits (g.L.Lane.value c.mask_of-mask.result) c.args.width c.requires.narrow c.mask_of-mask.ensures c.args.op (number_in g.L.Lane.value c.args.a.now) (λ _. g.L.Lane.value c.args.second) c.in-Subtract.is c.with_number-in-Subtract.ensures
 
-pub returns-in-Multiply-clause-each : goal.returns-in-Multiply-clause-each
-returns-in-Multiply-clause-each g c = product_number g.L.Lane.bits (g.L.Lane.value c.mask_of-mask.result) c.args.width c.requires.narrow c.mask_of-mask.ensures c.args.op (map g.L.Lane.value c.with_number-in-Multiply.new.to) (map g.L.Lane.value c.args.a.now) (g.L.Lane.value c.args.second) c.in-Multiply.is c.with_number-in-Multiply.ensures.each
+pub returns-in-Multiply : goal.returns-in-Multiply
+returns-in-Multiply g c = product_row g.L.Lane.value c.args.to.now c.with_number-in-Multiply.new.to g.L.Lane.bits (g.L.Lane.value c.mask_of-mask.result) c.args.width c.requires.narrow c.mask_of-mask.ensures c.args.op (number_in g.L.Lane.value c.args.a.now) (λ _. g.L.Lane.value c.args.second) c.in-Multiply.is c.with_number-in-Multiply.ensures

@@ -13,7 +13,7 @@ loop-number-preserved c =
     let k = c.loop-number.number in
     let i = c.index-code-number.result in
     let at : slice_get code k ≡ Some i = slice_get_read code (length code) k i refl c.loop-number-test.true c.index-code-number.is in
-    uses_on c.loop-number.uses c.note_instruction.new.uses k code c.loop-number.invariant i at c.note_instruction.ensures.last c.note_instruction.ensures.right c.note_instruction.ensures.target
+    uses_on c.loop-number.uses c.note_instruction.new.uses k code c.loop-number.invariant i at c.note_instruction.ensures.right.last c.note_instruction.ensures.right.used c.note_instruction.ensures.target
 
 pub returns : goal.returns
 returns c = uses_all c.args.code.now c.loop-number.uses c.loop-number.number (omega (arith, c.loop-number-test.false)) c.loop-number.invariant

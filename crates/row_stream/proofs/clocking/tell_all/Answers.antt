@@ -16,11 +16,16 @@ loop-out-init g c = record {
   tells = tells_none (kind_of c.args.format) c.args.line.now (g.D.Desk.outside c.args.desk.now);
 }
 
-pub returns-in_err-tell-clause-err : goal.returns-in_err-tell-clause-err
-returns-in_err-tell-clause-err g c =
-    let outside = g.D.Desk.outside in
-    passed c.from_residual.result c.in_err-tell.field-0.0 c.from_residual.ensures.1
-    (fails_next (kind_of c.args.format) c.args.outs.now c.loop-out.out-index _ c.args.line.now c.loop-out.line (outside c.args.desk.now) (outside c.loop-out.desk) (outside c.tell.new.desk) (slice_get-get_or _ _ _ c.loop-out-test.true) c.loop-out.invariant.tells c.in_err-tell.ensures.err)
+pub returns-in_err-tell : goal.returns-in_err-tell
+returns-in_err-tell g c = record {
+  more = search rules;
+  ok = search rules;
+  err =
+      let outside = g.D.Desk.outside in
+      passed c.from_residual.result c.in_err-tell.field-0.0 c.from_residual.ensures.1
+      (fails_next (kind_of c.args.format) c.args.outs.now c.loop-out.out-index _ c.args.line.now c.loop-out.line (outside c.args.desk.now) (outside c.loop-out.desk) (outside c.tell.new.desk) (slice_get-get_or _ _ _ c.loop-out-test.true) c.loop-out.invariant.tells c.in_err-tell.ensures.err);
+  desk = search rules;
+}
 
 pub loop-out-preserved : goal.loop-out-preserved
 loop-out-preserved g c =
@@ -34,7 +39,12 @@ loop-out-preserved g c =
       tells = tells_more (kind_of c.args.format) c.args.outs.now c.loop-out.out-index _ c.args.line.now c.loop-out.line (outside c.args.desk.now) (outside c.loop-out.desk) (outside c.tell.new.desk) (slice_get-get_or _ _ _ c.loop-out-test.true) c.tell.new.line inv.tells c.in_ok-tell.ensures.ok;
     }
 
-pub returns-clause-ok : goal.returns-clause-ok
-returns-clause-ok g c =
-    let outside = g.D.Desk.outside in
-    subst (λ z. Tells (kind_of c.args.format) z c.args.line.now c.loop-out.line (outside c.args.desk.now) (outside c.loop-out.desk)) (take_all c.loop-out.out-index c.args.outs.now (omega (arith, c.loop-out-test.false))) c.loop-out.invariant.tells
+pub returns : goal.returns
+returns g c = record {
+  more = search rules;
+  ok =
+      let outside = g.D.Desk.outside in
+      subst (λ z. Tells (kind_of c.args.format) z c.args.line.now c.loop-out.line (outside c.args.desk.now) (outside c.loop-out.desk)) (take_all c.loop-out.out-index c.args.outs.now (omega (arith, c.loop-out-test.false))) c.loop-out.invariant.tells;
+  err = search rules;
+  desk = search rules;
+}

@@ -1,12 +1,18 @@
-use Rattle.std.proofs.Common.{ℕ, List, IfSome, subst}
+use Rattle.std.proofs.Common.{ℕ, List, IfSome, subst, sym}
 use Rattle.dk_base.specs.Frames.{Size}
 use Rattle.pgm_codec.specs.Answers.{Refuses}
 use Rattle.pgm_rounds.specs.Files.{Refused}
 use Rattle.dk_base.specs.FrameSizes.{size_of}
 use Rattle.row_stream.specs.Heads.{TakesHead}
-use Rattle.row_stream.specs.HeadReading.{EndsHead}
-use Rattle.row_stream.proofs.HeadEnds.{refuses_head, refuses_taken}
+use Rattle.row_stream.specs.HeadReading.{EndsHead, IsRefusal}
+use Rattle.row_stream.proofs.HeadEnds.{refusal_of, refuses_head, refuses_taken}
 use Rattle.row_stream.proofs.heads.next_image.Goals as goal
+
+pub header_fault-requires-clause-refusal : goal.header_fault-requires-clause-refusal
+header_fault-requires-clause-refusal g c =
+    let old = (g.D.Desk.outside c.args.desk.now).image in
+    let new = (g.D.Desk.outside c.next_head.new.desk).image in
+    subst (λ f. IsRefusal f) (sym c.in-Err-Head.fault-is) (refusal_of c.args.may_end c.in-Err-Head.fault old new (subst (λ z. EndsHead c.args.may_end z old new) c.in-Err-Head.field-0-is c.in-Err-Head.ensures.err))
 
 pub returns-in-Err-Head-clause-err : goal.returns-in-Err-Head-clause-err
 returns-in-Err-Head-clause-err g c =

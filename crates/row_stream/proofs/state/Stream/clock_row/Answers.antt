@@ -1,4 +1,4 @@
-use Rattle.std.proofs.Common.{◌*◌, ◌∙◌, ◌∷◌, ◌≡◌, ◌≤◌, ℕ, List, [], ap, subst, sym, arith, map, length, take, All}
+use Rattle.std.proofs.Common.{rules, ◌*◌, ◌∙◌, ◌∷◌, ◌≡◌, ◌≤◌, ℕ, List, [], ap, subst, sym, arith, map, length, take, All}
 use Rattle.std.specs.List.{range_with_len}
 use Rattle.std.proofs.lemmas.Result.{on_ok_weaker, on_err_weaker}
 use Rattle.wiring.specs.Snapshot.{Fit}
@@ -54,24 +54,27 @@ clock_batch-requires-clause-fit g c =
     let is : c.fill_samples.new.dins.items ≡ map f (range_with_len 0 old.format.size.width) = c.fill_samples.ensures.is ∙ ap (λ (z : List ℕ). map (λ k. sample_at header.maxval z k) (range_with_len 0 (length old.batch.dins.items))) front ∙ ap (λ n. map f (range_with_len 0 n)) s.batch.dins in
     subst (λ z. All P z) (sym is) (all_made P f old.format.size.width (row_fits P header (row_of header old) old.format.size.width c.requires.row c.requires.header.sized.width (λ x l. s.fit x (omega (arith, l, c.requires.header.maxval)))))
 
-pub returns-clause-ok : goal.returns-clause-ok
-returns-clause-ok g c =
-    let header = c.args.header.now in
-    let old = c.args.self.now in
-    let outside = g.D.Desk.outside in
-    let front : c.split_at.result.0.now ≡ row_of header old = c.split_at.ensures.front ∙ ap (λ (z : List ℕ). take c.row_bytes.result z) c.deref.ensures.value ∙ ap (λ n. take n old.row.items) c.row_bytes.ensures.is in
-    let f : ℕ → ℕ = λ k. sample_at header.maxval (row_of header old) k in
-    let is : c.fill_samples.new.dins.items ≡ map f (range_with_len 0 old.format.size.width) = c.fill_samples.ensures.is ∙ ap (λ (z : List ℕ). map (λ k. sample_at header.maxval z k) (range_with_len 0 (length old.batch.dins.items))) front ∙ ap (λ n. map f (range_with_len 0 n)) c.requires.ready.stream.batch.dins in
-    let clocks = first_clocks f old.format.size.width old.format.size.width c.fill_samples.new.dins.items is (omega arith) in
-    on_ok_weaker c.clock_batch.result (λ h. subst (λ z. Goes (kind_of old.format) old.sim.netlist z old.sim.contents c.clock_batch.new.self.sim.contents old.line c.clock_batch.new.self.line (outside c.args.desk.now) (outside c.clock_batch.new.desk)) clocks h) c.clock_batch.ensures.ok
-
-pub returns-clause-err : goal.returns-clause-err
-returns-clause-err g c =
-    let header = c.args.header.now in
-    let old = c.args.self.now in
-    let outside = g.D.Desk.outside in
-    let front : c.split_at.result.0.now ≡ row_of header old = c.split_at.ensures.front ∙ ap (λ (z : List ℕ). take c.row_bytes.result z) c.deref.ensures.value ∙ ap (λ n. take n old.row.items) c.row_bytes.ensures.is in
-    let f : ℕ → ℕ = λ k. sample_at header.maxval (row_of header old) k in
-    let is : c.fill_samples.new.dins.items ≡ map f (range_with_len 0 old.format.size.width) = c.fill_samples.ensures.is ∙ ap (λ (z : List ℕ). map (λ k. sample_at header.maxval z k) (range_with_len 0 (length old.batch.dins.items))) front ∙ ap (λ n. map f (range_with_len 0 n)) c.requires.ready.stream.batch.dins in
-    let clocks = first_clocks f old.format.size.width old.format.size.width c.fill_samples.new.dins.items is (omega arith) in
-    on_err_weaker c.clock_batch.result (λ h. subst (λ z. Fails (kind_of old.format) old.sim.netlist z old.sim.contents old.line (outside c.args.desk.now) (outside c.clock_batch.new.desk)) clocks h) c.clock_batch.ensures.err
+pub returns : goal.returns
+returns g c = record {
+  keeps = search rules;
+  more = search rules;
+  ok =
+      let header = c.args.header.now in
+      let old = c.args.self.now in
+      let outside = g.D.Desk.outside in
+      let front : c.split_at.result.0.now ≡ row_of header old = c.split_at.ensures.front ∙ ap (λ (z : List ℕ). take c.row_bytes.result z) c.deref.ensures.value ∙ ap (λ n. take n old.row.items) c.row_bytes.ensures.is in
+      let f : ℕ → ℕ = λ k. sample_at header.maxval (row_of header old) k in
+      let is : c.fill_samples.new.dins.items ≡ map f (range_with_len 0 old.format.size.width) = c.fill_samples.ensures.is ∙ ap (λ (z : List ℕ). map (λ k. sample_at header.maxval z k) (range_with_len 0 (length old.batch.dins.items))) front ∙ ap (λ n. map f (range_with_len 0 n)) c.requires.ready.stream.batch.dins in
+      let clocks = first_clocks f old.format.size.width old.format.size.width c.fill_samples.new.dins.items is (omega arith) in
+      on_ok_weaker c.clock_batch.result (λ h. subst (λ z. Goes (kind_of old.format) old.sim.netlist z old.sim.contents c.clock_batch.new.self.sim.contents old.line c.clock_batch.new.self.line (outside c.args.desk.now) (outside c.clock_batch.new.desk)) clocks h) c.clock_batch.ensures.clocks.ok;
+  err =
+      let header = c.args.header.now in
+      let old = c.args.self.now in
+      let outside = g.D.Desk.outside in
+      let front : c.split_at.result.0.now ≡ row_of header old = c.split_at.ensures.front ∙ ap (λ (z : List ℕ). take c.row_bytes.result z) c.deref.ensures.value ∙ ap (λ n. take n old.row.items) c.row_bytes.ensures.is in
+      let f : ℕ → ℕ = λ k. sample_at header.maxval (row_of header old) k in
+      let is : c.fill_samples.new.dins.items ≡ map f (range_with_len 0 old.format.size.width) = c.fill_samples.ensures.is ∙ ap (λ (z : List ℕ). map (λ k. sample_at header.maxval z k) (range_with_len 0 (length old.batch.dins.items))) front ∙ ap (λ n. map f (range_with_len 0 n)) c.requires.ready.stream.batch.dins in
+      let clocks = first_clocks f old.format.size.width old.format.size.width c.fill_samples.new.dins.items is (omega arith) in
+      on_err_weaker c.clock_batch.result (λ h. subst (λ z. Fails (kind_of old.format) old.sim.netlist z old.sim.contents old.line (outside c.args.desk.now) (outside c.clock_batch.new.desk)) clocks h) c.clock_batch.ensures.clocks.err;
+  desk = search rules;
+}

@@ -1,4 +1,4 @@
-use Rattle.std.proofs.Common.{◌∷◌, [], refl, ap, subst, sym, arith}
+use Rattle.std.proofs.Common.{rules, ◌∷◌, [], refl, ap, subst, sym, arith}
 use Rattle.std.proofs.lemmas.Result.{on_ok_weaker, on_err_weaker}
 use Rattle.wiring.specs.Netlist.{Netlist}
 use Rattle.row_stream.specs.Formats.{kind_of}
@@ -18,37 +18,34 @@ tell-requires-clause-dout g c =
     let ok = c.in-Ok.ensures.ok in
     dout_fits c.values_fit_law.ensures.nets (kind_of old.format) old.sim.netlist c.requires.stream.one reset_clock old.sim.contents c.step.new.sim.contents ok.0 c.in-Ok.out c.law.ensures.fit (c.requires.stream.fit 0 (omega arith)) ok.1 ok.2
 
-pub returns-clause-keeps : goal.returns-clause-keeps
-returns-clause-keeps g c =
-    let old = c.args.self.now in
-    record { setting = ap (λ (m : Netlist). let z : Setting = record { kind = kind_of old.format; netlist = m; bits = old.bits } in z) c.in-Ok.ensures.netlist; row = refl; batch = c.requires.stream.batch }
-
-pub returns-clause-more : goal.returns-clause-more
-returns-clause-more g c =
-    let old = c.args.self.now in
-    let ok = c.in-Ok.ensures.ok in
-    let keeps : Keeps old _ = record { setting = ap (λ (m : Netlist). let z : Setting = record { kind = kind_of old.format; netlist = m; bits = old.bits } in z) c.in-Ok.ensures.netlist; row = refl; batch = c.requires.stream.batch } in
-    on_ok_weaker c.tell.result (λ h. record {
-      ready = record {
-        stream = same_stream old _ c.requires.stream keeps h.room;
-        created = h.created;
-        lasts = subst (λ (z : Netlist). Lasts z c.step.new.sim.contents) (sym c.in-Ok.ensures.netlist) (c.requires.starts.lasts ok.0 c.step.new.sim.contents ok.1);
-      };
-      few = h.few;
-    }) c.tell.ensures.more
-
-pub returns-clause-ok : goal.returns-clause-ok
-returns-clause-ok g c =
-    let outside = g.D.Desk.outside in
-    let old = c.args.self.now in
-    let ok = c.in-Ok.ensures.ok in
-    let to = c.step.new.sim.contents in
-    on_ok_weaker c.tell.result (λ h. goes_told (kind_of old.format) old.sim.netlist (reset_clock ∷ []) old.sim.contents to old.line (outside c.args.desk.now) (outside c.tell.new.desk) (ok.0 ∷ []) (c.in-Ok.out ∷ []) (to, ok.1, refl) (ok.2, tt) c.tell.new.line h) c.tell.ensures.ok
-
-pub returns-clause-err : goal.returns-clause-err
-returns-clause-err g c =
-    let outside = g.D.Desk.outside in
-    let old = c.args.self.now in
-    let ok = c.in-Ok.ensures.ok in
-    let to = c.step.new.sim.contents in
-    on_err_weaker c.tell.result (λ h. fails_told (kind_of old.format) old.sim.netlist (reset_clock ∷ []) old.sim.contents to old.line (outside c.args.desk.now) (outside c.tell.new.desk) (ok.0 ∷ []) (c.in-Ok.out ∷ []) (to, ok.1, refl) (ok.2, tt) h) c.tell.ensures.err
+pub returns : goal.returns
+returns g c = record {
+  keeps =
+      let old = c.args.self.now in
+      record { setting = ap (λ (m : Netlist). let z : Setting = record { kind = kind_of old.format; netlist = m; bits = old.bits } in z) c.in-Ok.ensures.netlist; row = refl; batch = c.requires.stream.batch };
+  more =
+      let old = c.args.self.now in
+      let ok = c.in-Ok.ensures.ok in
+      let keeps : Keeps old _ = record { setting = ap (λ (m : Netlist). let z : Setting = record { kind = kind_of old.format; netlist = m; bits = old.bits } in z) c.in-Ok.ensures.netlist; row = refl; batch = c.requires.stream.batch } in
+      on_ok_weaker c.tell.result (λ h. record {
+        ready = record {
+          stream = same_stream old _ c.requires.stream keeps h.room;
+          created = h.created;
+          lasts = subst (λ (z : Netlist). Lasts z c.step.new.sim.contents) (sym c.in-Ok.ensures.netlist) (c.requires.starts.lasts ok.0 c.step.new.sim.contents ok.1);
+        };
+        few = h.few;
+      }) c.tell.ensures.more;
+  ok =
+      let outside = g.D.Desk.outside in
+      let old = c.args.self.now in
+      let ok = c.in-Ok.ensures.ok in
+      let to = c.step.new.sim.contents in
+      on_ok_weaker c.tell.result (λ h. goes_told (kind_of old.format) old.sim.netlist (reset_clock ∷ []) old.sim.contents to old.line (outside c.args.desk.now) (outside c.tell.new.desk) (ok.0 ∷ []) (c.in-Ok.out ∷ []) (to, ok.1, refl) (ok.2, tt) c.tell.new.line h) c.tell.ensures.ok;
+  err =
+      let outside = g.D.Desk.outside in
+      let old = c.args.self.now in
+      let ok = c.in-Ok.ensures.ok in
+      let to = c.step.new.sim.contents in
+      on_err_weaker c.tell.result (λ h. fails_told (kind_of old.format) old.sim.netlist (reset_clock ∷ []) old.sim.contents to old.line (outside c.args.desk.now) (outside c.tell.new.desk) (ok.0 ∷ []) (c.in-Ok.out ∷ []) (to, ok.1, refl) (ok.2, tt) h) c.tell.ensures.err;
+  desk = search rules;
+}

@@ -3,7 +3,7 @@ use Rattle.dk_desk.specs.Outside.{Input}
 use Rattle.dk_base.specs.FrameSizes.{size_of}
 use Rattle.row_stream.specs.Formats.{kind_of}
 use Rattle.row_stream.specs.Progress.{Goes, Fails, pixel_clocks}
-use Rattle.row_stream.specs.Heads.{TakesHead, FitsHeader}
+use Rattle.row_stream.specs.Heads.{TakesHead, TakesFitting}
 use Rattle.row_stream.specs.ImageReading.{EndsImages, StreamsAll, unread}
 use Rattle.row_stream.specs.Whole.{Leaves, write_first}
 use Rattle.row_stream.specs.States.{Setting}
@@ -25,7 +25,7 @@ returns-in_err-next_image-clause-err g c =
     let f = c.in_err-next_image.field-0.0 in
     let e = c.in_err-next_image.ensures in
     if_err (λ f. Leaves kind m s.bits c.args.latency f name from old before) c.from_residual.result f c.from_residual.ensures.1
-    (leaves_first kind m s.bits c.args.latency name from old before f e.err e.only e.cause.later (λ l. taken_out f (e.cause.always l)))
+    (leaves_first kind m s.bits c.args.latency name from old before f e.err e.desk.only e.desk.cause.later (λ l. taken_out f (e.desk.cause.always l)))
 
 pub returns-in-Err-clause-err : goal.returns-in-Err-clause-err
 returns-in-Err-clause-err g c =
@@ -40,9 +40,10 @@ returns-in-Err-clause-err g c =
     let header = c.in-Some.header in
     let next = c.in_ok-next_image.ensures in
     let same : before.input_failures ≡ old.input_failures = search rules in
-    let takes : TakesHead header old.image before.image = subst (λ z. IfSome z (λ h. TakesHead h old.image before.image)) c.in-Some.is next.ok in
-    let fits : FitsHeader (size_of s.format.size) s.bits header = subst (λ z. IfSome z (FitsHeader (size_of s.format.size) s.bits)) c.in-Some.is next.fits in
-    let read = read_only old before next.only same in
+    let head : TakesFitting (size_of s.format.size) s.bits old.image before.image header = subst (λ z. IfSome z (TakesFitting (size_of s.format.size) s.bits old.image before.image)) c.in-Some.is next.ok in
+    let takes = head.takes in
+    let fits = head.fits in
+    let read = read_only old before next.desk.only same in
     write_first header before takes fits read c.in-Err.ensures.desk.idle c.in-Err.ensures.err
 
 pub returns-in_err-stream_images-clause-err : goal.returns-in_err-stream_images-clause-err
@@ -58,9 +59,10 @@ returns-in_err-stream_images-clause-err g c =
     let header = c.in-Some.header in
     let next = c.in_ok-next_image.ensures in
     let same : before.input_failures ≡ old.input_failures = search rules in
-    let takes : TakesHead header old.image before.image = subst (λ z. IfSome z (λ h. TakesHead h old.image before.image)) c.in-Some.is next.ok in
-    let fits : FitsHeader (size_of s.format.size) s.bits header = subst (λ z. IfSome z (FitsHeader (size_of s.format.size) s.bits)) c.in-Some.is next.fits in
-    let read = read_only old before next.only same in
+    let head : TakesFitting (size_of s.format.size) s.bits old.image before.image header = subst (λ z. IfSome z (TakesFitting (size_of s.format.size) s.bits old.image before.image)) c.in-Some.is next.ok in
+    let takes = head.takes in
+    let fits = head.fits in
+    let read = read_only old before next.desk.only same in
     let new = c.begin.new.self in
     let reset = outside c.begin.new.desk in
     let begun = c.in-Ok.ensures in
@@ -88,9 +90,10 @@ returns-in-Err-flush-clause-err g c =
     let header = c.in-Some.header in
     let next = c.in_ok-next_image.ensures in
     let same : before.input_failures ≡ old.input_failures = search rules in
-    let takes : TakesHead header old.image before.image = subst (λ z. IfSome z (λ h. TakesHead h old.image before.image)) c.in-Some.is next.ok in
-    let fits : FitsHeader (size_of s.format.size) s.bits header = subst (λ z. IfSome z (FitsHeader (size_of s.format.size) s.bits)) c.in-Some.is next.fits in
-    let read = read_only old before next.only same in
+    let head : TakesFitting (size_of s.format.size) s.bits old.image before.image header = subst (λ z. IfSome z (TakesFitting (size_of s.format.size) s.bits old.image before.image)) c.in-Some.is next.ok in
+    let takes = head.takes in
+    let fits = head.fits in
+    let read = read_only old before next.desk.only same in
     let new = c.begin.new.self in
     let reset = outside c.begin.new.desk in
     let begun = c.in-Ok.ensures in
@@ -119,9 +122,10 @@ returns-in-Ok-flush-clause-ok g c =
     let header = c.in-Some.header in
     let next = c.in_ok-next_image.ensures in
     let same : before.input_failures ≡ old.input_failures = search rules in
-    let takes : TakesHead header old.image before.image = subst (λ z. IfSome z (λ h. TakesHead h old.image before.image)) c.in-Some.is next.ok in
-    let fits : FitsHeader (size_of s.format.size) s.bits header = subst (λ z. IfSome z (FitsHeader (size_of s.format.size) s.bits)) c.in-Some.is next.fits in
-    let read = read_only old before next.only same in
+    let head : TakesFitting (size_of s.format.size) s.bits old.image before.image header = subst (λ z. IfSome z (TakesFitting (size_of s.format.size) s.bits old.image before.image)) c.in-Some.is next.ok in
+    let takes = head.takes in
+    let fits = head.fits in
+    let read = read_only old before next.desk.only same in
     let new = c.begin.new.self in
     let reset = outside c.begin.new.desk in
     let begun = c.in-Ok.ensures in

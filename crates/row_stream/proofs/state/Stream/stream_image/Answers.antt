@@ -12,7 +12,7 @@ raster_fault-requires-clause-index g c =
     let header = c.args.header.now in
     let before = g.D.Desk.outside c.args.desk.now in
     let now = g.D.Desk.outside c.stream_rows.new.desk in
-    let sized = c.requires.header.sized in
+    let sized = c.requires.can.header.sized in
     raster_index kind old.sim.netlist header c.in-Err-Raster.fault old.sim.contents old.line before now
     (subst (λ z. EndsRows kind old.sim.netlist header z old.sim.contents old.line before now) c.in-Err-Raster.field-0-is c.in-Err-Raster.ensures.err)
     (subst (λ z. z ≤ MAX_SIDE) (sym sized.width) old.format.size.sides.most_columns) (subst (λ z. z ≤ MAX_SIDE) (sym sized.height) old.format.size.sides.most_rows)

@@ -4,7 +4,7 @@ use Rattle.dk_base.specs.FrameSizes.{size_of}
 use Rattle.dk_desk.specs.Outside.{Input}
 use Rattle.row_stream.specs.declared.faults.StreamFault.{StreamFault}
 use Rattle.row_stream.specs.Formats.{kind_of}
-use Rattle.row_stream.specs.Heads.{TakesHead, FitsHeader}
+use Rattle.row_stream.specs.Heads.{TakesHead, TakesFitting, FitsHeader}
 use Rattle.row_stream.specs.RowReading.{Streams}
 use Rattle.row_stream.specs.ImageReading.{EndsImage, EndsImages, found_behind, unread}
 use Rattle.row_stream.specs.States.{Setting}
@@ -21,15 +21,22 @@ loop-images-init g c =
       ready = c.requires.ready;
       few = omega (arith, c.requires.few);
       inside = omega arith;
-      fits = c.requires.first;
+      fits = c.requires.header;
       small = omega arith;
       no_read = refl;
       no_failure = refl;
       stands = λ before t. stands_none (kind_of old.format) old.sim.netlist old.bits c.args.first old.sim.contents old.line before (g.D.Desk.outside c.args.desk.now) t;
     }
 
-pub stream_image-requires-clause-header : goal.stream_image-requires-clause-header
-stream_image-requires-clause-header g c = subst (λ (z : Setting). FitsHeader z.kind.size z.bits c.loop-images.header) (sym c.loop-images.invariant.keeps.setting) c.loop-images.invariant.fits
+pub stream_image-requires-clause-can : goal.stream_image-requires-clause-can
+stream_image-requires-clause-can g c =
+    let inv = c.loop-images.invariant in
+    record {
+      opened = inv.opened;
+      ready = inv.ready;
+      few = omega (arith, inv.few, inv.inside);
+      header = subst (λ (z : Setting). FitsHeader z.kind.size z.bits c.loop-images.header) (sym inv.keeps.setting) inv.fits;
+    }
 
 pub returns-in_err-stream_image-clause-keeps : goal.returns-in_err-stream_image-clause-keeps
 returns-in_err-stream_image-clause-keeps g c = keeps_then c.args.self.now c.loop-images.self c.stream_image.new.self c.loop-images.invariant.keeps c.in_err-stream_image.ensures.keeps
@@ -72,7 +79,7 @@ returns-in_err-further_image-clause-err g c =
     (λ before t. found_behind
     (ends_behind kind m old.bits c.loop-images.images c.loop-images.offset header before.rest old.sim.contents mid.sim.contents old.line mid.line (unread before (g.D.Desk.outside c.args.desk.now)) half now
     inv.fits (inv.stands before t) new.sim.contents new.line here (c.loop-images.offset + c.image_bytes-offset.result) (ap (λ z. c.loop-images.offset + z) c.image_bytes-offset.ensures.is)
-    f later c.in_err-further_image.ensures.only c.in_err-further_image.ensures.err))
+    f later c.in_err-further_image.ensures.desk.only c.in_err-further_image.ensures.err))
 
 pub returns-in-None-clause-keeps : goal.returns-in-None-clause-keeps
 returns-in-None-clause-keeps g c = keeps_then c.args.self.now c.loop-images.self c.stream_image.new.self c.loop-images.invariant.keeps c.in_ok-stream_image.ensures.keeps
@@ -91,7 +98,7 @@ returns-in-None-clause-ok g c before t =
     let here = subst (λ (z : Setting). Streams z.kind z.netlist header header.height mid.sim.contents new.sim.contents mid.line new.line half now) inv.keeps.setting c.in_ok-stream_image.ensures.ok in
     streams_all kind m old.bits c.loop-images.images c.loop-images.offset header before.rest old.sim.contents mid.sim.contents old.line mid.line (unread before (g.D.Desk.outside c.args.desk.now)) half
     now inv.fits (inv.stands before t) new.sim.contents new.line here inv.inside (g.D.Desk.outside c.further_image.new.desk)
-    (c.in_ok-further_image.ensures.same (ap (λ z. Ok z) c.in-None.is)) (c.in_ok-further_image.ensures.whole (ap (λ z. Ok z) c.in-None.is))
+    (c.in_ok-further_image.ensures.none (ap (λ z. Ok z) c.in-None.is)).same (c.in_ok-further_image.ensures.none (ap (λ z. Ok z) c.in-None.is)).end
 
 pub loop-images-preserved : goal.loop-images-preserved
 loop-images-preserved g c =
@@ -108,6 +115,7 @@ loop-images-preserved g c =
     let later = g.D.Desk.outside c.further_image.new.desk in
     let next = c.in-Some.next in
     let ok = c.in_ok-stream_image.ensures in
+    let head : TakesFitting (size_of old.format.size) old.bits now.image later.image next = subst (λ z. IfSome z (TakesFitting (size_of old.format.size) old.bits now.image later.image)) c.in-Some.is c.in_ok-further_image.ensures.ok in
     let same : later.input_failures ≡ now.input_failures = search rules in
     record {
       opened = search rules;
@@ -115,12 +123,12 @@ loop-images-preserved g c =
       ready = record { stream = ok.more.ready.stream; created = search rules; lasts = ok.more.ready.lasts };
       few = omega (arith, ok.more.few, inv.few);
       inside = subst (λ z. IfSome z (λ _. c.loop-images.images + 1 < MAX_FILE_IMAGES)) c.in-Some.is c.in_ok-further_image.ensures.few;
-      fits = subst (λ z. IfSome z (FitsHeader (size_of old.format.size) old.bits)) c.in-Some.is c.in_ok-further_image.ensures.fits;
+      fits = head.fits;
       small = omega (arith, inv.small, c.image_bytes-offset.ensures.most, inv.fits.length);
       no_read = search rules;
       no_failure = search rules;
       stands = λ before t.
           stands_more kind m old.bits c.loop-images.images c.loop-images.offset header before.rest old.sim.contents mid.sim.contents old.line mid.line (unread before (g.D.Desk.outside c.args.desk.now)) half
           now inv.fits (inv.stands before t) new.sim.contents new.line here (c.loop-images.offset + c.image_bytes-offset.result) (ap (λ z. c.loop-images.offset + z) c.image_bytes-offset.ensures.is)
-          next later (subst (λ z. IfSome z (λ h. TakesHead h now.image later.image)) c.in-Some.is c.in_ok-further_image.ensures.ok) c.in_ok-further_image.ensures.only same;
+          next later head.takes c.in_ok-further_image.ensures.desk.only same;
     }

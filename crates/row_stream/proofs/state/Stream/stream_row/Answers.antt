@@ -9,14 +9,18 @@ use Rattle.row_stream.proofs.RowLemmas.{streams_one, fails_row, one_row, misses_
 use Rattle.row_stream.proofs.Keeping.{passed, if_err, keeps_then}
 use Rattle.row_stream.proofs.state.Stream.stream_row.Goals as goal
 
-pub read_front-requires-clause-width : goal.read_front-requires-clause-width
-read_front-requires-clause-width g c = subst (λ z. z ≤ MAX_SIDE) (sym c.requires.header.sized.width) c.args.self.now.format.size.sides.most_columns
-
-pub read_front-requires-clause-room : goal.read_front-requires-clause-room
-read_front-requires-clause-room g c = omega (arith, c.requires.ready.stream.row, c.requires.header.sized.width)
+pub read_front-requires : goal.read_front-requires
+read_front-requires g c =
+    let can = c.requires.can in
+    record {
+      opened = can.opened;
+      width = subst (λ z. z ≤ MAX_SIDE) (sym can.header.sized.width) c.args.self.now.format.size.sides.most_columns;
+      row = c.requires.row;
+      room = omega (arith, can.ready.stream.row, can.header.sized.width);
+    }
 
 pub returns-in_err-read_front-clause-keeps : goal.returns-in_err-read_front-clause-keeps
-returns-in_err-read_front-clause-keeps g c = record { setting = refl; row = c.in_err-read_front.ensures.room; batch = c.requires.ready.stream.batch }
+returns-in_err-read_front-clause-keeps g c = record { setting = refl; row = c.in_err-read_front.ensures.room; batch = c.requires.can.ready.stream.batch }
 
 pub returns-in_err-read_front-clause-err : goal.returns-in_err-read_front-clause-err
 returns-in_err-read_front-clause-err g c =
@@ -25,15 +29,15 @@ returns-in_err-read_front-clause-err g c =
     let now = g.D.Desk.outside c.read_front.new.desk in
     let f = c.in_err-read_front.field-0.0 in
     if_err (λ e. EndsRow (kind_of old.format) old.sim.netlist c.args.header.now c.args.row e old.sim.contents old.line before now) c.from_residual.result f c.from_residual.ensures.1
-    (misses_row (kind_of old.format) old.sim.netlist c.args.header.now c.args.row f old.sim.contents old.line before now c.in_err-read_front.ensures.fault c.in_err-read_front.ensures.only)
+    (misses_row (kind_of old.format) old.sim.netlist c.args.header.now c.args.row f old.sim.contents old.line before now c.in_err-read_front.ensures.fault c.in_err-read_front.ensures.desk.only)
 
 pub clock_row-requires-clause-ready : goal.clock_row-requires-clause-ready
 clock_row-requires-clause-ready g c =
-    let s = c.requires.ready.stream in
+    let s = c.requires.can.ready.stream in
     record {
       stream = record { bits = s.bits; one = s.one; fit = s.fit; room = s.room; row = c.in_ok-read_front.ensures.room ∙ s.row; batch = s.batch };
       created = search rules;
-      lasts = c.requires.ready.lasts;
+      lasts = c.requires.can.ready.lasts;
     }
 
 pub clock_row-requires-clause-row : goal.clock_row-requires-clause-row
@@ -54,7 +58,7 @@ returns-in-Err-clause-err g c =
     let took = c.in_ok-read_front.ensures.ok in
     let same : mid.input_failures ≡ before.input_failures = search rules in
     fails_row (kind_of old.format) old.sim.netlist c.args.header.now c.args.row old.format.size.width _ old.sim.contents old.line before mid now
-    c.requires.header.sized.width took.judged took.bytes took.given c.in_ok-read_front.ensures.only same c.in-Err.ensures.desk.idle c.in-Err.ensures.err
+    c.requires.can.header.sized.width took.judged took.bytes took.given c.in_ok-read_front.ensures.desk.only same c.in-Err.ensures.desk.idle c.in-Err.ensures.err
 
 pub returns-in-Ok-clause-ok : goal.returns-in-Ok-clause-ok
 returns-in-Ok-clause-ok g c =
@@ -65,4 +69,4 @@ returns-in-Ok-clause-ok g c =
     let took = c.in_ok-read_front.ensures.ok in
     let same : mid.input_failures ≡ before.input_failures = search rules in
     streams_one (kind_of old.format) old.sim.netlist c.args.header.now c.args.row old.format.size.width _ old.sim.contents old.line before mid now
-    c.requires.header.sized.width took.judged took.bytes took.given c.in_ok-read_front.ensures.only same c.in-Ok.ensures.desk.idle c.clock_row.new.self.sim.contents c.clock_row.new.self.line c.in-Ok.ensures.ok
+    c.requires.can.header.sized.width took.judged took.bytes took.given c.in_ok-read_front.ensures.desk.only same c.in-Ok.ensures.desk.idle c.clock_row.new.self.sim.contents c.clock_row.new.self.line c.in-Ok.ensures.ok

@@ -21,13 +21,16 @@ loop-row-init g c =
       streams = streams_none (kind_of old.format) old.sim.netlist c.args.header.now old.sim.contents old.line (g.D.Desk.outside c.args.desk.now);
     }
 
-pub stream_row-requires-clause-header : goal.stream_row-requires-clause-header
-stream_row-requires-clause-header g c = subst (λ (z : Setting). FitsHeader z.kind.size z.bits c.args.header.now) (sym c.loop-row.invariant.keeps.setting) c.requires.header
-
-pub stream_row-requires-clause-few : goal.stream_row-requires-clause-few
-stream_row-requires-clause-few g c =
+pub stream_row-requires-clause-can : goal.stream_row-requires-clause-can
+stream_row-requires-clause-can g c =
+    let inv = c.loop-row.invariant in
     let high = subst (λ z. z ≤ MAX_SIDE) (sym c.requires.header.sized.height) c.args.self.now.format.size.sides.most_rows in
-    omega (arith, c.loop-row.invariant.more.few, c.requires.few, c.loop-row-test.true, high)
+    record {
+      opened = inv.opened;
+      ready = inv.more.ready;
+      few = omega (arith, inv.more.few, c.requires.few, c.loop-row-test.true, high);
+      header = subst (λ (z : Setting). FitsHeader z.kind.size z.bits c.args.header.now) (sym inv.keeps.setting) c.requires.header;
+    }
 
 pub returns-in_err-stream_row-clause-keeps : goal.returns-in_err-stream_row-clause-keeps
 returns-in_err-stream_row-clause-keeps g c = keeps_then c.args.self.now c.loop-row.self c.stream_row.new.self c.loop-row.invariant.keeps c.in_err-stream_row.ensures.keeps
