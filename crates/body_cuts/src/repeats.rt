@@ -178,19 +178,7 @@ impl<'a> Classes<'a> {
     }
 }
 
-// Adds the parts of two expressions that may be shared.
-#[cycle(note)]
-fn note_both<'a>(
-    program: &TypedProgram,
-    (a, b): (&'a Term, &'a Term),
-    classes: &mut Classes<'a>,
-) -> Result<(), OutOfMemory> {
-    note(program, a, classes)?;
-    note(program, b, classes)
-}
-
 // Adds the parts of an expression that may be shared.
-#[cycle(note)]
 fn note<'a>(
     program: &TypedProgram,
     e: &'a Term,
@@ -204,10 +192,14 @@ fn note<'a>(
         TermNode::Unary(_, a) => note(program, a, classes),
         TermNode::Scale(_, a, _) => note(program, a, classes),
         TermNode::Convert(_, a) => note(program, a, classes),
-        TermNode::Binary(_, a, b) => note_both(program, (a, b), classes),
+        TermNode::Binary(_, a, b) => {
+            note(program, a, classes)?;
+            note(program, b, classes)
+        }
         TermNode::Select(c, a, b) => {
             note(program, c, classes)?;
-            note_both(program, (a, b), classes)
+            note(program, a, classes)?;
+            note(program, b, classes)
         }
     }
 }

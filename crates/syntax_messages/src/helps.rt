@@ -85,20 +85,37 @@ pub(crate) fn push_radix(to: &mut Detail, word: &[u8]) {
     to.push("`");
 }
 
-// The type of the language for one of another language. Empty if there is none.
-fn known_type(word: &[u8]) -> &'static str {
-    match word {
-        b"bool" | b"bit" | b"logic" | b"wire" | b"reg" => "u1",
-        b"byte" | b"char" | b"uchar" | b"uint8" | b"uint8_t" | b"U8" => "u8",
-        b"int8" | b"int8_t" | b"i8" | b"S8" => "s8",
-        b"short" | b"int16" | b"int16_t" | b"i16" => "s16",
-        b"ushort" | b"uint16" | b"uint16_t" | b"U16" => "u16",
-        b"int" | b"int32" | b"int32_t" | b"i32" => "s32",
-        b"uint" | b"uint32" | b"uint32_t" | b"unsigned" => "u32",
-        b"long" | b"int64" | b"int64_t" | b"i64" => "s64",
-        b"ulong" | b"uint64" | b"uint64_t" => "u64",
-        _ => "",
+/// Whether a word is one of these, with a blank between them.
+pub(crate) fn is_among(words: &str, word: &[u8]) -> bool {
+    for other in words.split(' ') {
+        if other.as_bytes() == word {
+            return true;
+        }
     }
+    false
+}
+
+// Types of other languages, and that of the language for them.
+const KNOWN_TYPES: [(&str, &str); 9] = [
+    ("bool bit logic wire reg", "u1"),
+    ("byte char uchar uint8 uint8_t U8", "u8"),
+    ("int8 int8_t i8 S8", "s8"),
+    ("short int16 int16_t i16", "s16"),
+    ("ushort uint16 uint16_t U16", "u16"),
+    ("int int32 int32_t i32", "s32"),
+    ("uint uint32 uint32_t unsigned", "u32"),
+    ("long int64 int64_t i64", "s64"),
+    ("ulong uint64 uint64_t", "u64"),
+];
+
+// The type beside the word in a table. None if it is not there.
+fn known_type(table: &[(&'static str, &'static str)], word: &[u8]) -> Option<&'static str> {
+    for entry in table {
+        if is_among(entry.0, word) {
+            return Some(entry.1);
+        }
+    }
+    None
 }
 
 /// Adds the help on a word that is no type, with the one that is written for that of another language.
@@ -107,10 +124,9 @@ pub(crate) fn push_type_guess(to: &mut Detail, word: &[u8]) {
         to,
         "types are `u1` to `u64`, unsigned, and `s1` to `s64`, signed",
     );
-    let known = known_type(word);
-    if known.is_empty() {
+    let Some(known) = known_type(&KNOWN_TYPES, word) else {
         return;
-    }
+    };
     to.push("; write `");
     to.push(known);
     to.push("` for ");

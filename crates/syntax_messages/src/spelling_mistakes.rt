@@ -1,6 +1,7 @@
 // Mistakes of spelling.
 
 use crate::around::{Around, is_text, touches};
+use crate::helps::is_among;
 use crate::mistake::Mistake;
 use dk_lexer::Symbol;
 use expected_tokens::TokenClass;
@@ -112,10 +113,7 @@ fn upper_case(alloc: Global, a: &Around<'_>) -> Option<Mistake> {
 
 // Whether the word is a type of fractions in another language.
 fn is_fraction(word: &[u8]) -> bool {
-    match word {
-        b"float" | b"double" | b"half" | b"real" | b"fixed" => true,
-        _ => false,
-    }
+    is_among("float double half real fixed", word)
 }
 
 // What is no type, where a type must be.
