@@ -2,13 +2,14 @@
 
 use crate::expanded::Expanded;
 use crate::images::{image_name, read_levels};
+use crate::levels::{levels_of, raised};
 use crate::names::Names;
-use crate::pieces::{Above, Pieces, cut, share, shared_read};
+use crate::pieces::{Above, Piece, Pieces, cut, moved_piece, offset_read, share};
 use crate::product::{Factor, divided, has_divided, is_divided};
-use crate::repeats::repeated;
+use crate::repeats::{Shift, classes_of};
 use body_terms::{
-    Binding, Part, PixelRead, Term, TermNode, binary, converted, number, only_widens, own_levels,
-    push_read, scaled, selected, unary,
+    Part, PixelRead, Term, TermNode, binary, converted, number, only_widens, own_levels, scaled,
+    selected, unary,
 };
 use dk_base::OutOfMemory;
 use std::alloc::Global;
@@ -16,9 +17,11 @@ use std::alloc::Global;
 // A body and its pieces.
 #[derive(Drop)]
 pub(crate) struct Body {
-    pub(crate) pieces: Pieces,
+    pub(crate) pieces: Vec<Piece>,
     pub(crate) text: Vec<u8>,
     pub(crate) levels: u32,
+    // Whether it tests if a point is in the frame.
+    pub(crate) tests_frame: bool,
     // Whether it is whole because a piece has no name.
     pub(crate) is_unnamed: bool,
 }
@@ -26,42 +29,49 @@ pub(crate) struct Body {
 // The limit that no body passes.
 pub(crate) const NO_LIMIT: u32 = u32::MAX;
 
-fn read_part(
-    alloc: Global,
-    names: &Names<'_>,
-    levels: &[u32],
-    read: PixelRead,
-) -> Result<Part, OutOfMemory> {
-    let mut text = Vec::new(alloc);
-    push_read(
-        &mut text,
-        image_name(names.program, read.image),
-        read.dx,
-        read.dy,
-    )?;
-    if read.clamped {
-        text.extend_from_slice(b" edge clamp")?;
+// The read as the pieces have it.
+fn seen(pieces: &Pieces<'_>, read: PixelRead) -> PixelRead {
+    if pieces.is_still {
+        return PixelRead {
+            image: read.image,
+            dx: 0,
+            dy: read.dy,
+            clamped: false,
+        };
     }
-    Ok(Part {
-        text,
-        binding: Binding::Primary,
-        levels: Some(read_levels(names.program, levels, read)),
-    })
+    read
+}
+
+fn read_part(alloc: Global, pieces: &Pieces<'_>, read: PixelRead) -> Result<Part, OutOfMemory> {
+    let read = seen(pieces, read);
+    let program = pieces.names.program;
+    let levels = read_levels(program, pieces.levels, read);
+    let name = image_name(program, read.image);
+    offset_read(alloc, name, (read.dx, read.dy), read.clamped, levels)
 }
 
 // A read of the image that is 1.
-fn test_part(alloc: Global, names: &Names<'_>, dx: i32, dy: i32) -> Result<Part, OutOfMemory> {
-    let mut text = Vec::new(alloc);
-    push_read(&mut text, &names.frame, dx, dy)?;
-    Ok(Part {
-        text,
-        binding: Binding::Primary,
-        levels: Some(0),
-    })
+fn test_part(
+    alloc: Global,
+    pieces: &mut Pieces<'_>,
+    dx: i32,
+    dy: i32,
+) -> Result<Part, OutOfMemory> {
+    pieces.tests_frame = true;
+    offset_read(alloc, &pieces.names.frame, (dx, dy), false, 0)
+}
+
+// The read of a piece at a column. A clamped one chooses among taps.
+fn moved_read(alloc: Global, piece: &Piece, shift: Shift) -> Result<Part, OutOfMemory> {
+    let levels = u32::from(shift.clamped);
+    offset_read(alloc, &piece.name, (shift.dx, 0), shift.clamped, levels)
 }
 
 // What the operands of an expression have above them. A form that only widens is not cut, so that the narrower value is stored.
-fn above_operands(above: Above, e: &Term) -> Above {
+fn above_operands(limit: u32, is_divided: bool, above: Above, e: &Term) -> Above {
+    if is_divided {
+        return Above::Operator(limit);
+    }
     if only_widens(e) {
         return above;
     }
@@ -71,145 +81,137 @@ fn above_operands(above: Above, e: &Term) -> Above {
     }
 }
 
-// The same of the factors of a product. Where it is divided, what has levels is a piece, since it is read several times.
-fn above_factors(limit: u32, is_divided: bool, below: Above) -> Above {
-    if is_divided {
-        Above::Operator(limit)
-    } else {
-        below
-    }
+// A divided product, or the read of its piece if it must be one.
+fn product(
+    alloc: Global,
+    pieces: &mut Pieces<'_>,
+    above: Above,
+    (one, other): (Factor, Factor),
+) -> Result<Part, OutOfMemory> {
+    let product = divided(alloc, pieces, &one, &other)?;
+    cut(alloc, pieces, above, product)
 }
 
 // A part with the levels of its outermost form added, or the read of its piece if it must be one.
 fn finished(
     alloc: Global,
-    names: &Names<'_>,
-    pieces: &mut Pieces,
+    pieces: &mut Pieces<'_>,
     above: Above,
     e: &Term,
     inner: Part,
 ) -> Result<Part, OutOfMemory> {
-    let part = Part {
-        text: inner.text,
-        binding: inner.binding,
-        levels: inner
-            .levels
-            .map(|levels| levels.saturating_add(own_levels(e))),
-    };
+    let part = raised(inner, own_levels(e));
     if only_widens(e) {
         return Ok(part);
     }
-    cut(alloc, names, pieces, above, part)
+    cut(alloc, pieces, above, part)
 }
 
-// An expression whose parts above the limit are cut off.
+// An expression whose parts above the limit are cut off. The factors of a divided product have the limit above them: with levels they are pieces, since they are read several times.
 fn part(
     alloc: Global,
-    names: &Names<'_>,
-    levels: &[u32],
-    pieces: &mut Pieces,
+    pieces: &mut Pieces<'_>,
     above: Above,
     e: &Term,
 ) -> Result<Part, OutOfMemory> {
-    if let Some(read) = shared_read(alloc, names, pieces, e)? {
-        return cut(alloc, names, pieces, above, read);
+    if let Some((piece, shift)) = moved_piece(pieces, e) {
+        let read = moved_read(alloc, piece, shift)?;
+        return cut(alloc, pieces, above, read);
     }
-    let below = above_operands(above, e);
+    let is_divided = is_divided(pieces.limit, e);
+    let below = above_operands(pieces.limit, is_divided, above, e);
     let inner = match &e.node {
-        TermNode::Number(value) => number(alloc, *value)?,
-        TermNode::Read(read) => read_part(alloc, names, levels, *read)?,
-        TermNode::InFrame(dx, dy) => {
-            pieces.tests_frame = true;
-            test_part(alloc, names, *dx, *dy)?
-        }
-        TermNode::Unary(operator, a) => {
-            let a = part(alloc, names, levels, pieces, below, a)?;
-            unary(alloc, *operator, a)?
-        }
+        TermNode::Number(value) => number(alloc, *value),
+        TermNode::Read(read) => read_part(alloc, pieces, *read),
+        TermNode::InFrame(dx, dy) => test_part(alloc, pieces, *dx, *dy),
+        TermNode::Unary(operator, a) => unary(alloc, *operator, part(alloc, pieces, below, a)?),
         TermNode::Binary(operator, a, b) => {
-            let is_divided = is_divided(pieces.limit, e);
-            let below = above_factors(pieces.limit, is_divided, below);
-            let one = part(alloc, names, levels, pieces, below, a)?;
-            let other = part(alloc, names, levels, pieces, below, b)?;
+            let one = part(alloc, pieces, below, a)?;
+            let other = part(alloc, pieces, below, b)?;
             if is_divided {
                 let factors = (Factor::new(one, a.ty), Factor::new(other, b.ty));
-                let product = divided(alloc, names, pieces, factors)?;
-                return cut(alloc, names, pieces, above, product);
+                return product(alloc, pieces, above, factors);
             }
-            binary(alloc, *operator, one, other)?
+            binary(alloc, *operator, one, other)
         }
         TermNode::Scale(operator, a, by) => {
-            let a = part(alloc, names, levels, pieces, below, a)?;
-            scaled(alloc, *operator, a, *by)?
+            scaled(alloc, *operator, part(alloc, pieces, below, a)?, *by)
         }
-        TermNode::Convert(how, a) => {
-            let a = part(alloc, names, levels, pieces, below, a)?;
-            converted(alloc, *how, a, e.ty)?
-        }
+        TermNode::Convert(how, a) => converted(alloc, *how, part(alloc, pieces, below, a)?, e.ty),
         TermNode::Select(c, a, b) => {
-            let c = part(alloc, names, levels, pieces, below, c)?;
-            let a = part(alloc, names, levels, pieces, below, a)?;
-            let b = part(alloc, names, levels, pieces, below, b)?;
-            selected(alloc, c, a, b)?
+            let c = part(alloc, pieces, below, c)?;
+            let a = part(alloc, pieces, below, a)?;
+            let b = part(alloc, pieces, below, b)?;
+            selected(alloc, c, a, b)
         }
-    };
-    finished(alloc, names, pieces, above, e, inner)
+    }?;
+    finished(alloc, pieces, above, e, inner)
+}
+
+// Makes a piece of a part that the body has at two columns.
+fn share_part<'a>(alloc: Global, pieces: &mut Pieces<'a>, e: &'a Term) -> Result<(), OutOfMemory> {
+    pieces.is_still = true;
+    let piece = part(alloc, pieces, Above::Nothing, e)?;
+    pieces.is_still = false;
+    share(alloc, pieces, e, piece)
 }
 
 // Makes pieces of the parts that the body has at two columns.
-fn share_repeated(
+fn share_repeated<'a>(
     alloc: Global,
-    names: &Names<'_>,
-    levels: &[u32],
-    pieces: &mut Pieces,
-    e: &Term,
+    pieces: &mut Pieces<'a>,
+    e: &'a Term,
 ) -> Result<(), OutOfMemory> {
-    for same in repeated(alloc, names, e)? {
-        let piece = part(alloc, names, levels, pieces, Above::Nothing, &same)?;
-        share(alloc, names, pieces, same, piece)?;
+    let classes = classes_of(alloc, pieces.names.program, e)?;
+    for class in &classes {
+        if class.is_repeated {
+            share_part(alloc, pieces, class.part)?;
+        }
     }
     Ok(())
 }
 
 // A body that is cut at the limit of its pieces.
-fn made(
-    alloc: Global,
-    names: &Names<'_>,
-    levels: &[u32],
-    mut pieces: Pieces,
-    e: &Term,
-) -> Result<Body, OutOfMemory> {
-    let whole = part(alloc, names, levels, &mut pieces, Above::Nothing, e)?;
+fn made(alloc: Global, mut pieces: Pieces<'_>, e: &Term) -> Result<Body, OutOfMemory> {
+    let whole = part(alloc, &mut pieces, Above::Nothing, e)?;
     Ok(Body {
-        pieces,
+        pieces: pieces.items,
         text: whole.text,
         levels: whole.levels.unwrap_or(0),
-        is_unnamed: false,
+        tests_frame: pieces.tests_frame,
+        is_unnamed: pieces.has_unnamed,
     })
 }
 
+// Whether a body as it is written passes the limit, or has a product that is divided.
+fn is_cut(names: &Names<'_>, levels: &[u32], e: &Term, limit: u32) -> bool {
+    let whole = levels_of(names.program, levels, e).unwrap_or(0);
+    limit < whole || has_divided(limit, e)
+}
+
 // The body of the definition with this name. If it passes the limit, its expanded body is cut. If a piece would have no name, it is whole. The levels are those of the bodies before.
-pub(crate) fn cut_body(
+pub(crate) fn cut_body<'a>(
     alloc: Global,
-    names: &Names<'_>,
-    levels: &[u32],
-    stem: &[u8],
-    expanded: &Expanded,
+    names: &'a Names<'a>,
+    levels: &'a [u32],
+    stem: &'a [u8],
+    expanded: &'a Expanded,
     limit: u32,
 ) -> Result<Body, OutOfMemory> {
-    let uncut = Pieces::new(alloc, NO_LIMIT, stem)?;
-    let whole = made(alloc, names, levels, uncut, &expanded.written)?;
-    if whole.levels <= limit && !has_divided(limit, &expanded.written) {
-        return Ok(whole);
+    let mut is_unnamed = false;
+    if is_cut(names, levels, &expanded.written, limit) {
+        let mut pieces = Pieces::new(alloc, names, levels, stem, limit);
+        share_repeated(alloc, &mut pieces, &expanded.body)?;
+        let cut = made(alloc, pieces, &expanded.body)?;
+        if !cut.is_unnamed {
+            return Ok(cut);
+        }
+        is_unnamed = true;
     }
-    let mut pieces = Pieces::new(alloc, limit, stem)?;
-    share_repeated(alloc, names, levels, &mut pieces, &expanded.body)?;
-    let cut = made(alloc, names, levels, pieces, &expanded.body)?;
-    if cut.pieces.has_unnamed {
-        return Ok(Body {
-            is_unnamed: true,
-            ..whole
-        });
-    }
-    Ok(cut)
+    let uncut = Pieces::new(alloc, names, levels, stem, NO_LIMIT);
+    let whole = made(alloc, uncut, &expanded.written)?;
+    Ok(Body {
+        is_unnamed,
+        ..whole
+    })
 }

@@ -35,39 +35,36 @@ pub(crate) fn term_of(
     reads: &mut Expander<'_>,
     e: &TypedExpr,
     stays: bool,
-) -> Result<Term, OutOfMemory> {
+) -> Result<Box<Term>, OutOfMemory> {
     let as_written = stays || !varies(reads, e);
     let node = match &e.node {
         TypedNode::Number(value) => TermNode::Number(*value),
         TypedNode::Read(read) => {
             if !stays {
-                return reads.replaced(alloc, read_of(*read), e.ty);
+                return boxed(alloc, reads.replaced(alloc, read_of(*read), e.ty)?);
             }
             TermNode::Read(read_of(*read))
         }
         TypedNode::Unary(operator, a) => {
-            let a = term_of(alloc, reads, a, as_written)?;
-            TermNode::Unary(*operator, boxed(alloc, a)?)
+            TermNode::Unary(*operator, term_of(alloc, reads, a, as_written)?)
         }
         TypedNode::Binary(operator, a, b) => {
             let a = term_of(alloc, reads, a, as_written)?;
             let b = term_of(alloc, reads, b, as_written)?;
-            TermNode::Binary(*operator, boxed(alloc, a)?, boxed(alloc, b)?)
+            TermNode::Binary(*operator, a, b)
         }
         TypedNode::Scale(operator, a, by) => {
-            let a = term_of(alloc, reads, a, as_written)?;
-            TermNode::Scale(*operator, boxed(alloc, a)?, *by)
+            TermNode::Scale(*operator, term_of(alloc, reads, a, as_written)?, *by)
         }
         TypedNode::Convert(how, a) => {
-            let a = term_of(alloc, reads, a, as_written)?;
-            TermNode::Convert(*how, boxed(alloc, a)?)
+            TermNode::Convert(*how, term_of(alloc, reads, a, as_written)?)
         }
         TypedNode::Select(c, a, b) => {
             let c = term_of(alloc, reads, c, as_written)?;
             let a = term_of(alloc, reads, a, as_written)?;
             let b = term_of(alloc, reads, b, as_written)?;
-            TermNode::Select(boxed(alloc, c)?, boxed(alloc, a)?, boxed(alloc, b)?)
+            TermNode::Select(c, a, b)
         }
     };
-    Ok(Term { ty: e.ty, node })
+    boxed(alloc, Term { ty: e.ty, node })
 }

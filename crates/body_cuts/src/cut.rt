@@ -1,7 +1,7 @@
 // Whole programs.
 
 use crate::choices::{Choice, cut_each, deepest, no_cuts, note_depths};
-use crate::draft::{Draft, make_draft, push_program};
+use crate::draft::{Draft, make_draft, program_text};
 use crate::expanded::{Expanded, expanded_bodies};
 use crate::names::{Names, names_of};
 use crate::uncut::UncutBody;
@@ -70,8 +70,7 @@ pub fn cut_program(
 ) -> Result<CutProgram, OutOfMemory> {
     let names = names_of(alloc, program)?;
     let best = best_draft(alloc, &names, whole, levels.max(1))?;
-    let mut text = Vec::from_slice(alloc, head)?;
-    push_program(&mut text, &names, &best)?;
+    let text = program_text(alloc, head, &names, &best)?;
     Ok(CutProgram {
         text,
         uncut: best.uncut,

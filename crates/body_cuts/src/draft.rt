@@ -6,16 +6,16 @@ use crate::expanded::Expanded;
 use crate::images::image_name;
 use crate::names::Names;
 use crate::pieces::Piece;
+use crate::text::Text;
 use crate::uncut::{UncutBody, note_uncut};
-use body_terms::{push_number, push_type};
-use dk_base::{FrameSize, MAX_DEFINITIONS, OutOfMemory, Ty};
+use dk_base::{FrameSize, MAX_DEFINITIONS, OutOfMemory};
 use dk_types::{TypedDefinition, TypedProgram};
 use std::alloc::Global;
 
 // The definitions of a program's text.
 #[derive(Drop)]
 pub(crate) struct Draft {
-    text: Vec<u8>,
+    text: Text,
     // The number of definitions, with that of the image that is 1.
     pub(crate) definitions: usize,
     // The levels of each body that the source has.
@@ -33,67 +33,54 @@ fn limit(choice: Choice, most: u32) -> u32 {
     if choice.is_cut { most } else { NO_LIMIT }
 }
 
-fn push_size(to: &mut Vec<u8>, size: FrameSize) -> Result<(), OutOfMemory> {
-    to.extend_from_slice(b"size ")?;
-    push_number(to, u64::from(size.width))?;
-    to.extend_from_slice(b" ")?;
-    push_number(to, u64::from(size.height))?;
-    to.extend_from_slice(b"\n")?;
-    Ok(())
+fn push_size(to: &mut Text, size: FrameSize) {
+    to.push(b"size ");
+    to.push_number(size.width);
+    to.push(b" ");
+    to.push_number(size.height);
+    to.push(b"\n");
 }
 
-// Adds a type after a colon.
-fn push_typing(to: &mut Vec<u8>, ty: Ty) -> Result<(), OutOfMemory> {
-    to.extend_from_slice(b" : ")?;
-    push_type(to, ty)?;
-    Ok(())
-}
-
-fn push_inputs(to: &mut Vec<u8>, program: &TypedProgram) -> Result<(), OutOfMemory> {
+fn push_inputs(to: &mut Text, program: &TypedProgram) {
     for input in program.inputs() {
-        to.extend_from_slice(b"input ")?;
-        to.extend_from_slice(input.name.text.as_bytes())?;
-        push_typing(to, input.ty)?;
-        to.extend_from_slice(b"\n")?;
+        to.push(b"input ");
+        to.push(input.name.text.as_bytes());
+        to.push_typing(input.ty);
+        to.push(b"\n");
     }
-    Ok(())
 }
 
-fn push_outputs(to: &mut Vec<u8>, program: &TypedProgram) -> Result<(), OutOfMemory> {
+fn push_outputs(to: &mut Text, program: &TypedProgram) {
     for output in program.outputs() {
-        to.extend_from_slice(b"output ")?;
-        to.extend_from_slice(image_name(program, *output))?;
-        to.extend_from_slice(b"\n")?;
+        to.push(b"output ");
+        to.push(image_name(program, *output));
+        to.push(b"\n");
     }
-    Ok(())
 }
 
-fn push_body(to: &mut Vec<u8>, text: &[u8]) -> Result<(), OutOfMemory> {
-    to.extend_from_slice(b" = im(x,y) ")?;
-    to.extend_from_slice(text)?;
-    to.extend_from_slice(b" end\n")?;
-    Ok(())
+fn push_body(to: &mut Text, text: &[u8]) {
+    to.push(b" = im(x,y) ");
+    to.push(text);
+    to.push(b" end\n");
 }
 
-fn push_pieces(to: &mut Vec<u8>, pieces: &[Piece]) -> Result<(), OutOfMemory> {
+fn push_pieces(to: &mut Text, pieces: &[Piece]) {
     for piece in pieces {
-        to.extend_from_slice(b"let ")?;
-        to.extend_from_slice(&piece.name)?;
-        push_body(to, &piece.text)?;
+        to.push(b"let ");
+        to.push(&piece.name);
+        push_body(to, &piece.text);
     }
-    Ok(())
 }
 
 // Adds what a definition has before its body.
-fn push_opening(to: &mut Vec<u8>, definition: &TypedDefinition) -> Result<(), OutOfMemory> {
+fn push_opening(to: &mut Text, definition: &TypedDefinition) {
     if definition.inline {
-        to.extend_from_slice(b"inline ")?;
+        to.push(b"inline ");
     }
-    to.extend_from_slice(b"let ")?;
-    to.extend_from_slice(definition.name.text.as_bytes())?;
-    match definition.declared {
-        Some(ty) => push_typing(to, ty),
-        None => Ok(()),
+    to.push(b"let ");
+    to.push(definition.name.text.as_bytes());
+    if let Some(ty) = definition.declared {
+        to.push_typing(ty);
     }
 }
 
@@ -122,11 +109,11 @@ fn push_definition(
     if draft.most < body.levels {
         note_uncut(alloc, &mut draft.uncut, stem, choice, body.is_unnamed)?;
     }
-    push_pieces(&mut draft.text, &body.pieces.items)?;
-    push_opening(&mut draft.text, definition)?;
-    push_body(&mut draft.text, &body.text)?;
+    push_pieces(&mut draft.text, &body.pieces);
+    push_opening(&mut draft.text, definition);
+    push_body(&mut draft.text, &body.text);
+    count_definitions(draft, body.pieces.len(), body.tests_frame);
     draft.levels.push(body.levels)?;
-    count_definitions(draft, body.pieces.items.len(), body.pieces.tests_frame);
     Ok(())
 }
 
@@ -139,7 +126,7 @@ pub(crate) fn make_draft(
     most: u32,
 ) -> Result<Draft, OutOfMemory> {
     let mut draft = Draft {
-        text: Vec::new(alloc),
+        text: Text::new(alloc),
         definitions: 0,
         levels: Vec::new(alloc),
         most,
@@ -157,23 +144,27 @@ pub(crate) fn make_draft(
 }
 
 // Adds the inline image that is 1.
-fn push_frame(to: &mut Vec<u8>, name: &[u8]) -> Result<(), OutOfMemory> {
-    to.extend_from_slice(b"inline let ")?;
-    to.extend_from_slice(name)?;
-    push_body(to, b"1")
+fn push_frame(to: &mut Text, name: &[u8]) {
+    to.push(b"inline let ");
+    to.push(name);
+    push_body(to, b"1");
 }
 
-// Adds the program with the definitions of a draft.
-pub(crate) fn push_program(
-    to: &mut Vec<u8>,
+// The text of the program with the definitions of a draft, after `head`.
+pub(crate) fn program_text(
+    alloc: Global,
+    head: &[u8],
     names: &Names<'_>,
     draft: &Draft,
-) -> Result<(), OutOfMemory> {
-    push_size(to, names.program.size())?;
-    push_inputs(to, names.program)?;
+) -> Result<Vec<u8>, OutOfMemory> {
+    let mut text = Text::new(alloc);
+    text.push(head);
+    push_size(&mut text, names.program.size());
+    push_inputs(&mut text, names.program);
     if draft.tests_frame {
-        push_frame(to, &names.frame)?;
+        push_frame(&mut text, &names.frame);
     }
-    to.extend_from_slice(&draft.text)?;
-    push_outputs(to, names.program)
+    text.append(&draft.text);
+    push_outputs(&mut text, names.program);
+    text.finished()
 }

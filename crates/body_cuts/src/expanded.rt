@@ -8,7 +8,7 @@ use body_terms::{
     MoveFault, PixelRead, Term, TermNode, boxed, framed, is_constant, is_cut_off, moved, node_count,
 };
 use dk_base::{Conversion, OutOfMemory, Ty};
-use dk_types::TypedProgram;
+use dk_types::{TypedExpr, TypedProgram};
 use std::alloc::{AllocError, Global};
 
 // The most nodes that replace reads, over all definitions.
@@ -18,10 +18,17 @@ const MOST_NODES: usize = 262_144;
 #[derive(Drop)]
 pub(crate) struct Expanded {
     // The body as it is written.
-    pub(crate) written: Term,
-    pub(crate) body: Term,
+    pub(crate) written: Box<Term>,
+    pub(crate) body: Box<Term>,
     nodes: usize,
     is_constant: bool,
+}
+
+// The bodies so far, and the levels of each as it is written.
+#[derive(Drop)]
+struct Bodies {
+    all: Vec<Expanded>,
+    levels: Vec<u32>,
 }
 
 // Replaces reads of inline images.
@@ -29,9 +36,7 @@ pub(crate) struct Expanded {
 pub(crate) struct Expander<'a> {
     program: &'a TypedProgram,
     // The bodies before.
-    before: &'a [Expanded],
-    // The levels of the bodies before, as they are written.
-    levels: &'a [u32],
+    before: &'a Bodies,
     // The most levels that a body may have.
     most: u32,
     // The nodes that may still replace reads.
@@ -67,47 +72,74 @@ fn substitute<'a>(
 impl<'a> Expander<'a> {
     // Whether the read is better than a choice by the frame test: it is within the limit by itself.
     fn stays(&self, read: PixelRead) -> bool {
-        is_cut_off(read) && read_levels(self.program, self.levels, read) <= self.most
+        is_cut_off(read) && read_levels(self.program, &self.before.levels, read) <= self.most
     }
 
     // Whether the read is replaced by an expression of one value at all points.
     pub(crate) fn gives_constant(&self, read: PixelRead) -> bool {
-        match substitute(self.program, self.before, read.image) {
+        match substitute(self.program, &self.before.all, read.image) {
             Some((expanded, _)) => expanded.is_constant && !is_cut_off(read),
             None => false,
         }
     }
 
-    // What replaces this read, whose type is `ty`.
+    // The body that is moved to replace this read, with its declared type. Its nodes are taken from the room.
+    fn take(&mut self, read: PixelRead) -> Option<(&'a Expanded, Option<Ty>)> {
+        if self.stays(read) {
+            return None;
+        }
+        let (expanded, declared) = substitute(self.program, &self.before.all, read.image)?;
+        self.room = self.room.checked_sub(expanded.nodes)?;
+        Some((expanded, declared))
+    }
+
+    // The read of this type, or what replaces it.
     pub(crate) fn replaced(
         &mut self,
         alloc: Global,
         read: PixelRead,
         ty: Ty,
     ) -> Result<Term, OutOfMemory> {
-        let same = Term {
+        if let Some((expanded, declared)) = self.take(read) {
+            match moved(alloc, read, &expanded.body) {
+                Ok(body) => return framed(alloc, read, typed_body(alloc, declared, body)?),
+                Err(MoveFault::NoRead) => {}
+                Err(MoveFault::OutOfMemory) => return Err(AllocError),
+            }
+        }
+        Ok(Term {
             ty,
             node: TermNode::Read(read),
-        };
-        if self.stays(read) {
-            return Ok(same);
-        }
-        let Some((expanded, declared)) = substitute(self.program, self.before, read.image) else {
-            return Ok(same);
-        };
-        let Some(room) = self.room.checked_sub(expanded.nodes) else {
-            return Ok(same);
-        };
-        self.room = room;
-        match moved(alloc, read, &expanded.body) {
-            Ok(body) => {
-                let body = typed_body(alloc, declared, body)?;
-                framed(alloc, read, body)
-            }
-            Err(MoveFault::NoRead) => Ok(same),
-            Err(MoveFault::OutOfMemory) => Err(AllocError),
-        }
+        })
     }
+}
+
+// An expression as it is written, and with reads replaced.
+fn expanded_body(
+    alloc: Global,
+    expander: &mut Expander<'_>,
+    e: &TypedExpr,
+) -> Result<Expanded, OutOfMemory> {
+    let body = term_of(alloc, expander, e, false)?;
+    let written = term_of(alloc, expander, e, true)?;
+    Ok(Expanded {
+        nodes: node_count(&body),
+        is_constant: is_constant(&body),
+        written,
+        body,
+    })
+}
+
+// Adds a body to those before.
+fn add_body(
+    program: &TypedProgram,
+    bodies: &mut Bodies,
+    body: Expanded,
+) -> Result<(), OutOfMemory> {
+    let levels = levels_of(program, &bodies.levels, &body.written).unwrap_or(0);
+    bodies.all.push(body)?;
+    bodies.levels.push(levels)?;
+    Ok(())
 }
 
 // The bodies of all definitions, in order: expanded for bodies of at most `most` levels, but those that are not reached are as they are written.
@@ -116,30 +148,24 @@ pub(crate) fn expanded_bodies(
     program: &TypedProgram,
     most: u32,
 ) -> Result<Vec<Expanded>, OutOfMemory> {
-    let mut all = Vec::new(alloc);
-    let mut levels = Vec::new(alloc);
-    let mut room = MOST_NODES;
     let marks = reached(alloc, program)?;
+    let mut room = MOST_NODES;
+    let mut bodies = Bodies {
+        all: Vec::new(alloc),
+        levels: Vec::new(alloc),
+    };
     for (definition, is_reached) in program.definitions().iter().zip(&marks) {
         let mut expander = Expander {
             program,
-            before: &all,
-            levels: &levels,
+            before: &bodies,
             most,
             room: if *is_reached { room } else { 0 },
         };
-        let body = term_of(alloc, &mut expander, &definition.body, false)?;
+        let body = expanded_body(alloc, &mut expander, &definition.body)?;
         if *is_reached {
             room = expander.room;
         }
-        let written = term_of(alloc, &mut expander, &definition.body, true)?;
-        levels.push(levels_of(program, &levels, &written).unwrap_or(0))?;
-        all.push(Expanded {
-            nodes: node_count(&body),
-            is_constant: is_constant(&body),
-            written,
-            body,
-        })?;
+        add_body(program, &mut bodies, body)?;
     }
-    Ok(all)
+    Ok(bodies.all)
 }

@@ -15,6 +15,7 @@ mod pieces;
 mod product;
 mod reached;
 mod repeats;
+mod text;
 mod uncut;
 
 pub use cut::{CutProgram, cut_program};

@@ -16,17 +16,21 @@ pub(crate) struct Names<'a> {
 }
 
 fn is_name_of_input(program: &TypedProgram, name: &[u8]) -> bool {
-    program
-        .inputs()
-        .iter()
-        .any(|input| input.name.text.as_bytes() == name)
+    for input in program.inputs() {
+        if input.name.text.as_bytes() == name {
+            return true;
+        }
+    }
+    false
 }
 
 fn is_name_of_definition(program: &TypedProgram, name: &[u8]) -> bool {
-    program
-        .definitions()
-        .iter()
-        .any(|definition| definition.name.text.as_bytes() == name)
+    for definition in program.definitions() {
+        if definition.name.text.as_bytes() == name {
+            return true;
+        }
+    }
+    false
 }
 
 // Whether an image of the program has this name.

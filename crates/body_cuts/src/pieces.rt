@@ -13,11 +13,11 @@ pub(crate) struct Piece {
     pub(crate) text: Vec<u8>,
 }
 
-// A piece that the body reads at several columns: its name, and what it is.
-#[derive(Drop)]
-struct Shared {
-    name: Vec<u8>,
-    same: Term,
+// A part that the body has at several columns, and the number of its piece.
+#[derive(Clone, Copy)]
+struct Shared<'a> {
+    part: &'a Term,
+    piece: usize,
 }
 
 // What an expression has above it.
@@ -29,164 +29,180 @@ pub(crate) enum Above {
     Operator(u32),
 }
 
-// The pieces of one body so far.
+// The pieces of one body so far, and what they are made by.
 #[derive(Drop)]
-pub(crate) struct Pieces {
+pub(crate) struct Pieces<'a> {
+    pub(crate) names: &'a Names<'a>,
+    // The levels of the bodies before.
+    pub(crate) levels: &'a [u32],
     pub(crate) limit: u32,
     // The name of the definition.
-    stem: Vec<u8>,
+    stem: &'a [u8],
     // The first number that was not tried in a name.
     next: u32,
     pub(crate) items: Vec<Piece>,
-    // The pieces that the body reads at several columns.
-    shared: Vec<Shared>,
+    // The parts that the body has at several columns.
+    shared: Vec<Shared<'a>>,
+    // Whether reads are made without their moves along the line, as in a piece that is shared.
+    pub(crate) is_still: bool,
     // Whether a piece has no name.
     pub(crate) has_unnamed: bool,
     // Whether the body tests if a point is in the frame.
     pub(crate) tests_frame: bool,
 }
 
-impl Pieces {
+impl<'a> Pieces<'a> {
     // None yet.
-    pub(crate) fn new(alloc: Global, limit: u32, stem: &[u8]) -> Result<Pieces, OutOfMemory> {
-        let stem = Vec::from_slice(alloc, stem)?;
-        Ok(Pieces {
+    pub(crate) fn new(
+        alloc: Global,
+        names: &'a Names<'a>,
+        levels: &'a [u32],
+        stem: &'a [u8],
+        limit: u32,
+    ) -> Pieces<'a> {
+        Pieces {
+            names,
+            levels,
             limit,
             stem,
             next: 1,
             items: Vec::new(alloc),
             shared: Vec::new(alloc),
+            is_still: false,
             has_unnamed: false,
             tests_frame: false,
-        })
+        }
     }
 }
 
 // Whether a part of these levels must be a piece.
 fn passes(limit: u32, above: Above, levels: Option<u32>) -> bool {
-    let Some(levels) = levels else {
-        return false;
-    };
-    match above {
-        Above::Nothing => false,
-        Above::Operator(own) => 0 < levels && limit < levels.saturating_add(own),
+    match (above, levels) {
+        (Above::Operator(own), Some(levels)) => 0 < levels && limit < levels.saturating_add(own),
+        _ => false,
     }
 }
 
 // The next name of a piece. None if there is none, or it would be too long.
-fn next_name(
-    alloc: Global,
-    names: &Names<'_>,
-    pieces: &mut Pieces,
-) -> Result<Option<Vec<u8>>, OutOfMemory> {
+fn next_name(alloc: Global, pieces: &mut Pieces<'_>) -> Result<Option<Vec<u8>>, OutOfMemory> {
     for number in pieces.next..END_OF_NUMBERS {
         pieces.next = number + 1;
-        let name = numbered(alloc, &pieces.stem, number)?;
+        let name = numbered(alloc, pieces.stem, number)?;
         if MAX_NAME_BYTES < name.len() {
-            return Ok(None);
+            break;
         }
-        if !is_taken(names, &name) {
+        if !is_taken(pieces.names, &name) {
             return Ok(Some(name));
         }
     }
+    pieces.has_unnamed = true;
     Ok(None)
 }
 
-// The read of the piece of this text, if there is one.
-fn known_read(alloc: Global, items: &[Piece], text: &[u8]) -> Result<Option<Part>, OutOfMemory> {
+// The piece of this text, if there is one.
+fn known_piece<'a>(items: &'a [Piece], text: &[u8]) -> Option<&'a Piece> {
     for piece in items {
         if piece.text.as_slice() == text {
-            let read = piece_read(alloc, &piece.name)?;
-            return Ok(Some(read));
+            return Some(piece);
         }
     }
-    Ok(None)
+    None
+}
+
+// Adds a piece, and returns the read of it.
+fn add_piece(
+    alloc: Global,
+    pieces: &mut Pieces<'_>,
+    name: Vec<u8>,
+    text: Vec<u8>,
+) -> Result<Part, OutOfMemory> {
+    let read = piece_read(alloc, &name)?;
+    pieces.items.push(Piece { name, text })?;
+    Ok(read)
 }
 
 // Makes a part a piece, and returns the read of it.
-fn make_piece(
-    alloc: Global,
-    names: &Names<'_>,
-    pieces: &mut Pieces,
-    part: Part,
-) -> Result<Part, OutOfMemory> {
-    let Some(name) = next_name(alloc, names, pieces)? else {
-        pieces.has_unnamed = true;
-        return Ok(part);
-    };
-    let read = piece_read(alloc, &name)?;
-    let text = part.text;
-    pieces.items.push(Piece { name, text })?;
-    Ok(read)
+fn make_piece(alloc: Global, pieces: &mut Pieces<'_>, part: Part) -> Result<Part, OutOfMemory> {
+    match next_name(alloc, pieces)? {
+        Some(name) => add_piece(alloc, pieces, name, part.text),
+        None => Ok(part),
+    }
 }
 
 // The part, or the read of its piece if it must be one. A body gets no more pieces after too many, since it is then not used.
 pub(crate) fn cut(
     alloc: Global,
-    names: &Names<'_>,
-    pieces: &mut Pieces,
+    pieces: &mut Pieces<'_>,
     above: Above,
     part: Part,
 ) -> Result<Part, OutOfMemory> {
     if !passes(pieces.limit, above, part.levels) {
         return Ok(part);
     }
-    if let Some(read) = known_read(alloc, &pieces.items, &part.text)? {
-        return Ok(read);
+    if let Some(piece) = known_piece(&pieces.items, &part.text) {
+        return piece_read(alloc, &piece.name);
     }
     if MAX_DEFINITIONS <= pieces.items.len() {
         return Ok(part);
     }
-    make_piece(alloc, names, pieces, part)
+    make_piece(alloc, pieces, part)
 }
 
-// The read of a piece at a column. A clamped one chooses among taps.
-fn moved_read(alloc: Global, name: &[u8], shift: Shift) -> Result<Part, OutOfMemory> {
+// A read of the image of this name at an offset, which has these levels.
+pub(crate) fn offset_read(
+    alloc: Global,
+    name: &[u8],
+    (dx, dy): (i32, i32),
+    clamped: bool,
+    levels: u32,
+) -> Result<Part, OutOfMemory> {
     let mut text = Vec::new(alloc);
-    push_read(&mut text, name, shift.dx, 0)?;
-    if shift.clamped {
+    push_read(&mut text, name, dx, dy)?;
+    if clamped {
         text.extend_from_slice(b" edge clamp")?;
     }
     Ok(Part {
         text,
         binding: Binding::Primary,
-        levels: Some(u32::from(shift.clamped)),
+        levels: Some(levels),
     })
 }
 
-// Makes a part a piece that the body reads at several columns. `same` is the part without its move.
-pub(crate) fn share(
+// Makes a part a piece that the body reads at several columns. `e` is the part with the moves of its reads.
+pub(crate) fn share<'a>(
     alloc: Global,
-    names: &Names<'_>,
-    pieces: &mut Pieces,
-    same: Term,
+    pieces: &mut Pieces<'a>,
+    e: &'a Term,
     part: Part,
 ) -> Result<(), OutOfMemory> {
-    let Some(name) = next_name(alloc, names, pieces)? else {
-        pieces.has_unnamed = true;
+    let Some(name) = next_name(alloc, pieces)? else {
         return Ok(());
     };
-    let own = Vec::from_slice(alloc, &name)?;
-    pieces.shared.push(Shared { name: own, same })?;
+    pieces.shared.push(Shared {
+        part: e,
+        piece: pieces.items.len(),
+    })?;
     let text = part.text;
     pieces.items.push(Piece { name, text })?;
     Ok(())
 }
 
-// The read of the shared piece that the expression is but for its move, if there is one.
-pub(crate) fn shared_read(
-    alloc: Global,
-    names: &Names<'_>,
-    pieces: &Pieces,
-    e: &Term,
-) -> Result<Option<Part>, OutOfMemory> {
-    for piece in &pieces.shared {
-        if are_equal(&piece.same, e) {
-            if let Some(shift) = shared_shift(names, e) {
-                let read = moved_read(alloc, &piece.name, shift)?;
-                return Ok(Some(read));
-            }
+// The shared piece that the expression is but for its move, if there is one.
+fn shared_piece<'a>(pieces: &'a Pieces<'_>, e: &Term) -> Option<&'a Piece> {
+    for shared in &pieces.shared {
+        if are_equal(shared.part, e) {
+            return pieces.items.get(shared.piece);
         }
     }
-    Ok(None)
+    None
+}
+
+// The shared piece that the expression is but for its move, with this move.
+pub(crate) fn moved_piece<'a>(pieces: &'a Pieces<'_>, e: &Term) -> Option<(&'a Piece, Shift)> {
+    let piece = shared_piece(pieces, e)?;
+    let shift = shared_shift(pieces.names.program, e)?;
+    if pieces.is_still {
+        return Some((piece, Shift::NONE));
+    }
+    Some((piece, shift))
 }

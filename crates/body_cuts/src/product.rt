@@ -1,6 +1,6 @@
 // Products of wide factors, as sums of products of their halves.
 
-use crate::names::Names;
+use crate::levels::raised;
 use crate::pieces::{Above, Pieces, cut};
 use body_terms::{Part, Term, TermNode, binary, converted, is_constant, scaled};
 use dk_base::{Binary, Conversion, OutOfMemory, Scaling, Ty};
@@ -42,10 +42,12 @@ fn is_wide(a: &Term, b: &Term) -> bool {
 
 // Whether the expression is a product that is divided where bodies have at most `limit` levels.
 pub(crate) fn is_divided(limit: u32, e: &Term) -> bool {
-    let TermNode::Binary(Binary::Multiply, a, b) = &e.node else {
-        return false;
-    };
-    limit <= MOST_LEVELS && e.ty.width() <= MOST_BITS && is_wide(a, b)
+    match &e.node {
+        TermNode::Binary(Binary::Multiply, a, b) => {
+            limit <= MOST_LEVELS && e.ty.width() <= MOST_BITS && is_wide(a, b)
+        }
+        _ => false,
+    }
 }
 
 // Whether the expression has a product that is divided.
@@ -64,15 +66,12 @@ pub(crate) fn has_divided(limit: u32, e: &Term) -> bool {
     }
 }
 
-fn copied(alloc: Global, factor: &Factor) -> Result<Factor, OutOfMemory> {
-    let text = Vec::from_slice(alloc, &factor.part.text)?;
-    Ok(Factor {
-        part: Part {
-            text,
-            binding: factor.part.binding,
-            levels: factor.part.levels,
-        },
-        ty: factor.ty,
+// The part once more.
+fn copied(alloc: Global, part: &Part) -> Result<Part, OutOfMemory> {
+    Ok(Part {
+        text: Vec::from_slice(alloc, &part.text)?,
+        binding: part.binding,
+        levels: part.levels,
     })
 }
 
@@ -85,27 +84,20 @@ fn resized(ty: Ty, width: u8) -> Ty {
 }
 
 // The low bits of a factor, as a number that is not below 0.
-fn low_half(alloc: Global, factor: Factor, bits: u8) -> Result<Factor, OutOfMemory> {
+fn low_half(alloc: Global, factor: &Factor, bits: u8) -> Result<Factor, OutOfMemory> {
     let ty = Ty::Unsigned(bits);
-    let part = converted(alloc, Conversion::Cast, factor.part, ty)?;
-    Ok(Factor { part, ty })
-}
-
-// The bits of a factor above the low ones, with its sign.
-fn high_half(alloc: Global, factor: Factor, bits: u8) -> Result<Factor, OutOfMemory> {
-    let ty = resized(factor.ty, factor.ty.width().saturating_sub(bits));
-    let part = scaled(alloc, Scaling::ShiftRight, factor.part, u64::from(bits))?;
+    let part = copied(alloc, &factor.part)?;
     let part = converted(alloc, Conversion::Cast, part, ty)?;
     Ok(Factor { part, ty })
 }
 
-// The part with one more level of operators.
-fn raised(part: Part) -> Part {
-    Part {
-        text: part.text,
-        binding: part.binding,
-        levels: part.levels.map(|levels| levels.saturating_add(1)),
-    }
+// The bits of a factor above the low ones, with its sign.
+fn high_half(alloc: Global, factor: &Factor, bits: u8) -> Result<Factor, OutOfMemory> {
+    let ty = resized(factor.ty, factor.ty.width().saturating_sub(bits));
+    let part = copied(alloc, &factor.part)?;
+    let part = scaled(alloc, Scaling::ShiftRight, part, u64::from(bits))?;
+    let part = converted(alloc, Conversion::Cast, part, ty)?;
+    Ok(Factor { part, ty })
 }
 
 // The type of a product.
@@ -118,62 +110,66 @@ fn product_type(a: Ty, b: Ty) -> Ty {
     }
 }
 
-fn multiplied(alloc: Global, a: Factor, b: Factor) -> Result<Part, OutOfMemory> {
-    let part = binary(alloc, Binary::Multiply, a.part, b.part)?;
-    Ok(raised(part))
+fn multiplied(alloc: Global, a: &Factor, b: &Factor) -> Result<Part, OutOfMemory> {
+    let one = copied(alloc, &a.part)?;
+    let other = copied(alloc, &b.part)?;
+    let part = binary(alloc, Binary::Multiply, one, other)?;
+    Ok(raised(part, 1))
+}
+
+// The product of the high half in its place, above the low bits.
+fn placed(
+    alloc: Global,
+    pieces: &mut Pieces<'_>,
+    high: Part,
+    bits: u8,
+) -> Result<Part, OutOfMemory> {
+    let high = cut(alloc, pieces, Above::Operator(1), high)?;
+    scaled(alloc, Scaling::ShiftLeft, high, u64::from(bits))
 }
 
 // The products of the low and of the high half, added, in the type of the whole product.
 fn joined(
     alloc: Global,
-    names: &Names<'_>,
-    pieces: &mut Pieces,
+    pieces: &mut Pieces<'_>,
     (low, high): (Part, Part),
     bits: u8,
     ty: Ty,
 ) -> Result<Part, OutOfMemory> {
-    let low = cut(alloc, names, pieces, Above::Operator(1), low)?;
-    let high = cut(alloc, names, pieces, Above::Operator(1), high)?;
-    let high = scaled(alloc, Scaling::ShiftLeft, high, u64::from(bits))?;
+    let low = cut(alloc, pieces, Above::Operator(1), low)?;
+    let high = placed(alloc, pieces, high, bits)?;
     let sum = binary(alloc, Binary::Add, low, high)?;
-    converted(alloc, Conversion::Cast, raised(sum), ty)
+    converted(alloc, Conversion::Cast, raised(sum, 1), ty)
 }
 
 // The product with the second factor divided if it is wide.
 fn divided_right(
     alloc: Global,
-    names: &Names<'_>,
-    pieces: &mut Pieces,
-    a: Factor,
-    b: Factor,
+    pieces: &mut Pieces<'_>,
+    a: &Factor,
+    b: &Factor,
 ) -> Result<Part, OutOfMemory> {
     if b.ty.width() <= WIDEST_FACTOR {
         return multiplied(alloc, a, b);
     }
     let bits = b.ty.width() / 2;
-    let ty = product_type(a.ty, b.ty);
-    let low = low_half(alloc, copied(alloc, &b)?, bits)?;
-    let high = high_half(alloc, b, bits)?;
-    let low = multiplied(alloc, copied(alloc, &a)?, low)?;
-    let high = multiplied(alloc, a, high)?;
-    joined(alloc, names, pieces, (low, high), bits, ty)
+    let low = multiplied(alloc, a, &low_half(alloc, b, bits)?)?;
+    let high = multiplied(alloc, a, &high_half(alloc, b, bits)?)?;
+    joined(alloc, pieces, (low, high), bits, product_type(a.ty, b.ty))
 }
 
 // The product, with each wide factor divided into halves. The factors are reads of pieces or have no levels.
 pub(crate) fn divided(
     alloc: Global,
-    names: &Names<'_>,
-    pieces: &mut Pieces,
-    (a, b): (Factor, Factor),
+    pieces: &mut Pieces<'_>,
+    a: &Factor,
+    b: &Factor,
 ) -> Result<Part, OutOfMemory> {
     if a.ty.width() <= WIDEST_FACTOR {
-        return divided_right(alloc, names, pieces, a, b);
+        return divided_right(alloc, pieces, a, b);
     }
     let bits = a.ty.width() / 2;
-    let ty = product_type(a.ty, b.ty);
-    let low = low_half(alloc, copied(alloc, &a)?, bits)?;
-    let high = high_half(alloc, a, bits)?;
-    let low = divided_right(alloc, names, pieces, low, copied(alloc, &b)?)?;
-    let high = divided_right(alloc, names, pieces, high, b)?;
-    joined(alloc, names, pieces, (low, high), bits, ty)
+    let low = divided_right(alloc, pieces, &low_half(alloc, a, bits)?, b)?;
+    let high = divided_right(alloc, pieces, &high_half(alloc, a, bits)?, b)?;
+    joined(alloc, pieces, (low, high), bits, product_type(a.ty, b.ty))
 }

@@ -1,9 +1,9 @@
 // Parts of a body that are equal but for a move along the line: one definition serves all of them.
 
 use crate::images::is_inline;
-use crate::names::Names;
-use body_terms::{PixelRead, Term, TermNode, boxed, own_levels};
+use body_terms::{PixelRead, Term, TermNode, own_levels};
 use dk_base::{Binary, OutOfMemory, Scaling, Ty};
+use dk_types::TypedProgram;
 use indexmap::IndexMap;
 use std::alloc::Global;
 
@@ -14,12 +14,19 @@ pub(crate) struct Shift {
     pub(crate) clamped: bool,
 }
 
+impl Shift {
+    pub(crate) const NONE: Shift = Shift {
+        dx: 0,
+        clamped: false,
+    };
+}
+
 // A part of a body with the columns of its reads, whether an equal part has reads at other columns, and the part before it with the same mark.
-#[derive(Drop)]
-struct Class<'a> {
-    part: &'a Term,
+#[derive(Clone, Copy)]
+pub(crate) struct Class<'a> {
+    pub(crate) part: &'a Term,
     dx: i32,
-    is_repeated: bool,
+    pub(crate) is_repeated: bool,
     before: Option<usize>,
 }
 
@@ -31,9 +38,9 @@ struct Classes<'a> {
 }
 
 // How a read is moved, if it is along the line.
-fn shift_of(names: &Names<'_>, read: PixelRead) -> Option<Shift> {
+fn shift_of(program: &TypedProgram, read: PixelRead) -> Option<Shift> {
     let is_held = read.clamped && read.dx == 0;
-    if read.dy != 0 || is_held || is_inline(names.program, read.image) {
+    if read.dy != 0 || is_held || is_inline(program, read.image) {
         return None;
     }
     Some(Shift {
@@ -48,14 +55,14 @@ fn common(one: Option<Shift>, other: Option<Shift>) -> Option<Shift> {
 }
 
 // How all reads of an operand of a product are moved, if it is by the same columns. Only forms that are 0 where a read outside the frame is 0 count.
-fn common_shift(names: &Names<'_>, e: &Term) -> Option<Shift> {
+fn common_shift(program: &TypedProgram, e: &Term) -> Option<Shift> {
     match &e.node {
-        TermNode::Read(read) => shift_of(names, *read),
+        TermNode::Read(read) => shift_of(program, *read),
         TermNode::Binary(Binary::Multiply, a, b) => {
-            common(common_shift(names, a), common_shift(names, b))
+            common(common_shift(program, a), common_shift(program, b))
         }
-        TermNode::Scale(_, a, _) => common_shift(names, a),
-        TermNode::Convert(_, a) => common_shift(names, a),
+        TermNode::Scale(_, a, _) => common_shift(program, a),
+        TermNode::Convert(_, a) => common_shift(program, a),
         TermNode::Number(_) | TermNode::InFrame(_, _) => None,
         TermNode::Unary(_, _) | TermNode::Binary(_, _, _) => None,
         TermNode::Select(_, _, _) => None,
@@ -75,50 +82,12 @@ fn is_costly(e: &Term) -> bool {
 }
 
 // The move of a part that may be shared.
-pub(crate) fn shared_shift(names: &Names<'_>, e: &Term) -> Option<Shift> {
+pub(crate) fn shared_shift(program: &TypedProgram, e: &Term) -> Option<Shift> {
     if is_costly(e) {
-        common_shift(names, e)
+        common_shift(program, e)
     } else {
         None
     }
-}
-
-// A part without its move.
-fn still(alloc: Global, e: &Term) -> Result<Term, OutOfMemory> {
-    let node = match &e.node {
-        TermNode::Number(value) => TermNode::Number(*value),
-        TermNode::Read(read) => TermNode::Read(PixelRead {
-            image: read.image,
-            dx: 0,
-            dy: read.dy,
-            clamped: false,
-        }),
-        TermNode::InFrame(dx, dy) => TermNode::InFrame(*dx, *dy),
-        TermNode::Unary(operator, a) => {
-            let a = still(alloc, a)?;
-            TermNode::Unary(*operator, boxed(alloc, a)?)
-        }
-        TermNode::Binary(operator, a, b) => {
-            let a = still(alloc, a)?;
-            let b = still(alloc, b)?;
-            TermNode::Binary(*operator, boxed(alloc, a)?, boxed(alloc, b)?)
-        }
-        TermNode::Scale(operator, a, by) => {
-            let a = still(alloc, a)?;
-            TermNode::Scale(*operator, boxed(alloc, a)?, *by)
-        }
-        TermNode::Convert(how, a) => {
-            let a = still(alloc, a)?;
-            TermNode::Convert(*how, boxed(alloc, a)?)
-        }
-        TermNode::Select(c, a, b) => {
-            let c = still(alloc, c)?;
-            let a = still(alloc, a)?;
-            let b = still(alloc, b)?;
-            TermNode::Select(boxed(alloc, c)?, boxed(alloc, a)?, boxed(alloc, b)?)
-        }
-    };
-    Ok(Term { ty: e.ty, node })
 }
 
 // Whether two parts are equal but for the moves of their reads.
@@ -177,15 +146,15 @@ impl<'a> Classes<'a> {
         None
     }
 
-    // Adds a part whose reads are moved by these columns.
-    fn add(&mut self, part: &'a Term, dx: i32) -> Result<(), OutOfMemory> {
-        let mark = mark_of(part);
-        if let Some(place) = self.find(mark, part) {
-            if let Some(class) = self.parts.get_mut(place) {
-                class.is_repeated = class.is_repeated || class.dx != dx;
-            }
-            return Ok(());
+    // Notes that the part at this place also has reads that are moved by these columns.
+    fn repeat(&mut self, place: usize, dx: i32) {
+        if let Some(class) = self.parts.get_mut(place) {
+            class.is_repeated = class.is_repeated || class.dx != dx;
         }
+    }
+
+    // Adds the first part with this mark and form.
+    fn begin(&mut self, mark: u64, part: &'a Term, dx: i32) -> Result<(), OutOfMemory> {
         let before = self.last.insert(mark, self.parts.len())?;
         self.parts.push(Class {
             part,
@@ -195,46 +164,56 @@ impl<'a> Classes<'a> {
         })?;
         Ok(())
     }
+
+    // Adds a part whose reads are moved by these columns.
+    fn add(&mut self, part: &'a Term, dx: i32) -> Result<(), OutOfMemory> {
+        let mark = mark_of(part);
+        match self.find(mark, part) {
+            Some(place) => {
+                self.repeat(place, dx);
+                Ok(())
+            }
+            None => self.begin(mark, part, dx),
+        }
+    }
 }
 
 // Adds the parts of an expression that may be shared.
-fn note<'a>(names: &Names<'_>, e: &'a Term, classes: &mut Classes<'a>) -> Result<(), OutOfMemory> {
-    if let Some(shift) = shared_shift(names, e) {
+fn note<'a>(
+    program: &TypedProgram,
+    e: &'a Term,
+    classes: &mut Classes<'a>,
+) -> Result<(), OutOfMemory> {
+    if let Some(shift) = shared_shift(program, e) {
         return classes.add(e, shift.dx);
     }
     match &e.node {
         TermNode::Number(_) | TermNode::Read(_) | TermNode::InFrame(_, _) => Ok(()),
-        TermNode::Unary(_, a) => note(names, a, classes),
-        TermNode::Scale(_, a, _) => note(names, a, classes),
-        TermNode::Convert(_, a) => note(names, a, classes),
+        TermNode::Unary(_, a) => note(program, a, classes),
+        TermNode::Scale(_, a, _) => note(program, a, classes),
+        TermNode::Convert(_, a) => note(program, a, classes),
         TermNode::Binary(_, a, b) => {
-            note(names, a, classes)?;
-            note(names, b, classes)
+            note(program, a, classes)?;
+            note(program, b, classes)
         }
         TermNode::Select(c, a, b) => {
-            note(names, c, classes)?;
-            note(names, a, classes)?;
-            note(names, b, classes)
+            note(program, c, classes)?;
+            note(program, a, classes)?;
+            note(program, b, classes)
         }
     }
 }
 
-// The parts of a body that it has at two columns, each once and without its move.
-pub(crate) fn repeated(
+// The different parts of a body that may be shared, in order.
+pub(crate) fn classes_of<'a>(
     alloc: Global,
-    names: &Names<'_>,
-    e: &Term,
-) -> Result<Vec<Term>, OutOfMemory> {
+    program: &TypedProgram,
+    e: &'a Term,
+) -> Result<Vec<Class<'a>>, OutOfMemory> {
     let mut classes = Classes {
         parts: Vec::new(alloc),
         last: IndexMap::new(alloc),
     };
-    note(names, e, &mut classes)?;
-    let mut found = Vec::new(alloc);
-    for class in &classes.parts {
-        if class.is_repeated {
-            found.push(still(alloc, class.part)?)?;
-        }
-    }
-    Ok(found)
+    note(program, e, &mut classes)?;
+    Ok(classes.parts)
 }

@@ -8,30 +8,23 @@ use dk_base::OutOfMemory;
 use source_fault::{SourceFault, Subject};
 use source_places::PlainText;
 use std::alloc::Global;
-use syntax_messages::{Source, push_excerpt, push_syntax};
+use syntax_messages::{Detail, Source, push_excerpt, push_syntax};
 use type_faults::FoundTypes;
 
 // On a fault of types.
-fn push_typed_detail(to: &mut PlainText, alloc: Global, of: &Typed<'_>) -> Result<(), OutOfMemory> {
-    push_typed(to, of)?;
-    push_excerpt(to, alloc, of.source, of.fault.span)?;
-    push_type_help(to, of)?;
-    Ok(())
+fn push_typed_detail(to: &mut Detail, alloc: Global, of: &Typed<'_>) {
+    push_typed(to, of);
+    push_excerpt(to, alloc, of.source, of.fault.span);
+    push_type_help(to, of);
 }
 
 // On a program over a limit.
-fn push_limit_detail(
-    to: &mut PlainText,
-    alloc: Global,
-    source: &Source<'_>,
-    fault: SourceFault,
-) -> Result<(), OutOfMemory> {
-    push_limit(to, fault)?;
+fn push_limit_detail(to: &mut Detail, alloc: Global, source: &Source<'_>, fault: SourceFault) {
+    push_limit(to, fault);
     if let Subject::Bytes(span) = fault.subject() {
-        push_excerpt(to, alloc, source, span)?;
+        push_excerpt(to, alloc, source, span);
     }
-    push_limit_help(to, fault)?;
-    Ok(())
+    push_limit_help(to, fault);
 }
 
 /// The sentence on a fault, the excerpt of its span, and the lines of help. `types` are those at a fault of types.
@@ -41,21 +34,21 @@ pub(crate) fn detail(
     fault: SourceFault,
     types: FoundTypes,
 ) -> Result<PlainText, OutOfMemory> {
-    let mut to = PlainText::new(alloc);
+    let mut to = Detail::new(alloc);
     match fault {
         SourceFault::Lex(fault) => {
-            push_lexical(&mut to, source.text, fault)?;
-            push_excerpt(&mut to, alloc, source, fault.span)?;
-            push_lexical_help(&mut to, source.text, fault)?;
+            push_lexical(&mut to, source.text, fault);
+            push_excerpt(&mut to, alloc, source, fault.span);
+            push_lexical_help(&mut to, source.text, fault);
         }
-        SourceFault::Syntax { span } => push_syntax(&mut to, alloc, source, span)?,
+        SourceFault::Syntax { span } => push_syntax(&mut to, alloc, source, span),
         SourceFault::Types(fault) => {
             let of = Typed {
                 source,
                 fault,
                 types,
             };
-            push_typed_detail(&mut to, alloc, &of)?;
+            push_typed_detail(&mut to, alloc, &of);
         }
         SourceFault::TooLong
         | SourceFault::Nest { span: _ }
@@ -64,7 +57,7 @@ pub(crate) fn detail(
         | SourceFault::Nodes { count: _ }
         | SourceFault::Reads { count: _ }
         | SourceFault::Bits { least: _ }
-        | SourceFault::Latency { clocks: _ } => push_limit_detail(&mut to, alloc, source, fault)?,
+        | SourceFault::Latency { clocks: _ } => push_limit_detail(&mut to, alloc, source, fault),
     }
-    Ok(to)
+    to.finished()
 }

@@ -1,9 +1,8 @@
 // Faults of tokens.
 
-use dk_base::{MAX_NAME_BYTES, OutOfMemory, Span};
+use dk_base::{MAX_NAME_BYTES, Span};
 use dk_lexer::{LexFault, LexKind};
-use source_places::PlainText;
-use syntax_messages::{bytes_of, push_help, push_numbered, push_quoted};
+use syntax_messages::{Detail, bytes_of, push_help, push_numbered, push_quoted};
 
 // What stands at a byte that begins no token.
 #[derive(Clone, Copy)]
@@ -40,19 +39,18 @@ fn bytes_at(text: &[u8], span: Span) -> Bytes {
 }
 
 // Adds the sentence on a byte that begins no token.
-fn push_byte(to: &mut PlainText, text: &[u8], span: Span) -> Result<(), OutOfMemory> {
+fn push_byte(to: &mut Detail, text: &[u8], span: Span) {
     match bytes_at(text, span) {
         Bytes::Printable(_) => {
-            push_quoted(to, bytes_of(text, span))?;
-            to.push(" begins no token")?;
+            push_quoted(to, bytes_of(text, span));
+            to.push(" begins no token");
         }
-        Bytes::ByteOrderMark => to.push("the text begins with a byte order mark")?,
-        Bytes::Wide => to.push("the text is in UTF-16")?,
-        Bytes::Nul => to.push("a byte 0 begins no token")?,
-        Bytes::Control => to.push("a control character begins no token")?,
-        Bytes::NotAscii => to.push("a character that is not ASCII begins no token")?,
+        Bytes::ByteOrderMark => to.push("the text begins with a byte order mark"),
+        Bytes::Wide => to.push("the text is in UTF-16"),
+        Bytes::Nul => to.push("a byte 0 begins no token"),
+        Bytes::Control => to.push("a control character begins no token"),
+        Bytes::NotAscii => to.push("a character that is not ASCII begins no token"),
     }
-    Ok(())
 }
 
 // What helps with a character of ASCII.
@@ -88,38 +86,28 @@ fn byte_help(text: &[u8], span: Span) -> &'static str {
 }
 
 /// Adds the sentence on a fault of tokens.
-pub(crate) fn push_lexical(
-    to: &mut PlainText,
-    text: &[u8],
-    fault: LexFault,
-) -> Result<(), OutOfMemory> {
+pub(crate) fn push_lexical(to: &mut Detail, text: &[u8], fault: LexFault) {
     let length = bytes_of(text, fault.span).len() as u64;
     match fault.kind {
-        LexKind::BadByte => push_byte(to, text, fault.span)?,
+        LexKind::BadByte => push_byte(to, text, fault.span),
         LexKind::NumberTooGreat => {
-            to.push("the number is above the greatest one, 2^64 - 1 = 18446744073709551615")?
+            to.push("the number is above the greatest one, 2^64 - 1 = 18446744073709551615")
         }
         LexKind::NameTooLong => {
-            push_numbered(to, "the word has ", length, " bytes, and ")?;
-            push_numbered(to, "", MAX_NAME_BYTES as u64, " are allowed")?;
+            push_numbered(to, "the word has ", length, " bytes, and ");
+            push_numbered(to, "", MAX_NAME_BYTES as u64, " are allowed");
         }
     }
-    Ok(())
 }
 
 /// Adds the help on a fault of tokens.
-pub(crate) fn push_lexical_help(
-    to: &mut PlainText,
-    text: &[u8],
-    fault: LexFault,
-) -> Result<(), OutOfMemory> {
+pub(crate) fn push_lexical_help(to: &mut Detail, text: &[u8], fault: LexFault) {
     let help = match fault.kind {
         LexKind::BadByte => byte_help(text, fault.span),
         LexKind::NumberTooGreat => "",
         LexKind::NameTooLong => "",
     };
     if !help.is_empty() {
-        push_help(to, help)?;
+        push_help(to, help);
     }
-    Ok(())
 }

@@ -110,12 +110,7 @@ impl<'a> Around<'a> {
 
     /// Whether a token of the class could stand there.
     pub(crate) fn expects(&self, class: TokenClass) -> bool {
-        for other in self.expected {
-            if *other == class {
-                return true;
-            }
-        }
-        false
+        self.expected.contains(&class)
     }
 
     /// Whether the reserved word could stand there.

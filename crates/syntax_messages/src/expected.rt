@@ -1,10 +1,10 @@
 // What could stand at a place, in words.
 
 use crate::classes::{begins_operand, is_operator, symbol_text};
+use crate::words::{Detail, push_quoted};
 use dk_base::OutOfMemory;
 use dk_lexer::Symbol;
 use expected_tokens::TokenClass;
-use source_places::PlainText;
 use source_words::Keyword;
 use std::alloc::Global;
 
@@ -25,23 +25,14 @@ enum Item {
     OtherOperator,
 }
 
-fn contains(classes: &[TokenClass], class: TokenClass) -> bool {
-    for other in classes {
-        if *other == class {
-            return true;
-        }
-    }
-    false
-}
-
 // Whether an operand may begin there.
 fn has_operand(classes: &[TokenClass]) -> bool {
-    contains(classes, TokenClass::Name) && contains(classes, TokenClass::Number)
+    classes.contains(&TokenClass::Name) && classes.contains(&TokenClass::Number)
 }
 
 // Whether an operator may stand there.
 fn has_operator(classes: &[TokenClass]) -> bool {
-    contains(classes, TokenClass::Symbol(Symbol::Bar))
+    classes.contains(&TokenClass::Symbol(Symbol::Bar))
 }
 
 // Whether the class is named by itself, in its place. `edge` comes after what may stand there whatever is before it.
@@ -52,7 +43,7 @@ fn is_named(classes: &[TokenClass], class: TokenClass) -> bool {
 
 // The word of an expression.
 fn expression(classes: &[TokenClass]) -> Item {
-    if contains(classes, TokenClass::Symbol(Symbol::Minus)) {
+    if classes.contains(&TokenClass::Symbol(Symbol::Minus)) {
         Item::Expression
     } else {
         Item::Unsigned
@@ -75,7 +66,7 @@ fn items(
         }
     }
     if has_operator(classes) {
-        if contains(classes, EDGE) {
+        if classes.contains(&EDGE) {
             items.push(Item::Class(EDGE))?;
         }
         items.push(if is_operator(found) {
@@ -88,35 +79,25 @@ fn items(
 }
 
 // Adds a class.
-fn push_class(to: &mut PlainText, class: TokenClass) -> Result<(), OutOfMemory> {
+fn push_class(to: &mut Detail, class: TokenClass) {
     match class {
-        TokenClass::Type => to.push("a type")?,
-        TokenClass::Name => to.push("a name")?,
-        TokenClass::Number => to.push("a number")?,
-        TokenClass::EndOfText => to.push("the end of the text")?,
-        TokenClass::Keyword(keyword) => {
-            to.push("`")?;
-            to.push(keyword.spelling())?;
-            to.push("`")?;
-        }
-        TokenClass::Symbol(symbol) => {
-            to.push("`")?;
-            to.push(symbol_text(symbol))?;
-            to.push("`")?;
-        }
+        TokenClass::Type => to.push("a type"),
+        TokenClass::Name => to.push("a name"),
+        TokenClass::Number => to.push("a number"),
+        TokenClass::EndOfText => to.push("the end of the text"),
+        TokenClass::Keyword(keyword) => push_quoted(to, keyword.spelling().as_bytes()),
+        TokenClass::Symbol(symbol) => push_quoted(to, symbol_text(symbol).as_bytes()),
     }
-    Ok(())
 }
 
-fn push_item(to: &mut PlainText, item: Item) -> Result<(), OutOfMemory> {
+fn push_item(to: &mut Detail, item: Item) {
     match item {
-        Item::Expression => to.push("an expression")?,
-        Item::Unsigned => to.push("an operand without a sign")?,
-        Item::Operator => to.push("an operator")?,
-        Item::OtherOperator => to.push("another operator")?,
-        Item::Class(class) => push_class(to, class)?,
+        Item::Expression => to.push("an expression"),
+        Item::Unsigned => to.push("an operand without a sign"),
+        Item::Operator => to.push("an operator"),
+        Item::OtherOperator => to.push("another operator"),
+        Item::Class(class) => push_class(to, class),
     }
-    Ok(())
 }
 
 // What is before an item of a list of this length.
@@ -130,17 +111,23 @@ fn separator(place: usize, length: usize) -> &'static str {
     }
 }
 
+// Adds items, as `a, b or c`.
+fn push_items(to: &mut Detail, items: &[Item]) {
+    for (place, item) in items.iter().enumerate() {
+        to.push(separator(place, items.len()));
+        push_item(to, *item);
+    }
+}
+
 /// Adds what could stand at a place in place of what was found, as `a, b or c`.
 pub(crate) fn push_expected(
-    to: &mut PlainText,
+    to: &mut Detail,
     alloc: Global,
     classes: &[TokenClass],
     found: TokenClass,
-) -> Result<(), OutOfMemory> {
-    let items = items(alloc, classes, found)?;
-    for (place, item) in items.iter().enumerate() {
-        to.push(separator(place, items.len()))?;
-        push_item(to, *item)?;
+) {
+    match items(alloc, classes, found) {
+        Ok(items) => push_items(to, &items),
+        Err(_) => to.fail(),
     }
-    Ok(())
 }

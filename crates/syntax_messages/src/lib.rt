@@ -14,4 +14,4 @@ mod words;
 
 pub use around::{Source, bytes_of, class_before, is_word, token_at};
 pub use syntax::{push_excerpt, push_syntax};
-pub use words::{begin_help, push_help, push_numbered, push_place, push_quoted};
+pub use words::{Detail, begin_help, push_help, push_numbered, push_place, push_quoted};

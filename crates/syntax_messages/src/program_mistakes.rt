@@ -34,28 +34,35 @@ fn is_end(class: TokenClass) -> bool {
     matches!(class, TokenClass::Keyword(Keyword::End))
 }
 
-// The front of a text.
-fn size_mistake(a: &Around<'_>) -> Option<Mistake> {
-    if a.expects_only(TokenClass::Keyword(Keyword::Size)) {
-        return Some(match a.found {
-            TokenClass::EndOfText => Mistake::Empty,
-            _ => Mistake::NoSize,
-        });
+// Whether the size could stand there, which a text begins with.
+fn expects_size(a: &Around<'_>) -> bool {
+    a.expects_only(TokenClass::Keyword(Keyword::Size))
+}
+
+fn is_size(class: TokenClass) -> bool {
+    matches!(class, TokenClass::Keyword(Keyword::Size))
+}
+
+/// The mistake at the front of a text that has none of its tokens, or only its size.
+pub(crate) fn front_mistake(a: &Around<'_>) -> Option<Mistake> {
+    if expects_size(a) {
+        return match a.found {
+            TokenClass::EndOfText => Some(Mistake::EMPTY),
+            _ => None,
+        };
     }
-    match (a.second, a.first) {
-        (TokenClass::Keyword(Keyword::Size), _) | (_, TokenClass::Keyword(Keyword::Size)) => {
-            Some(Mistake::SizeSides)
-        }
-        _ => None,
+    if is_size(a.second) || is_size(a.first) {
+        return Some(Mistake::SIZE_SIDES);
     }
+    None
 }
 
 // What stands in place of a name.
 fn name_mistake(a: &Around<'_>) -> Option<Mistake> {
     match (a.first, a.found) {
-        (TokenClass::Keyword(Keyword::Input), TokenClass::Type) => Some(Mistake::TypeFirst),
-        (_, TokenClass::Type) => Some(Mistake::TypeName),
-        (_, TokenClass::Keyword(_)) => Some(Mistake::ReservedName),
+        (TokenClass::Keyword(Keyword::Input), TokenClass::Type) => Some(Mistake::TYPE_FIRST),
+        (_, TokenClass::Type) => Some(Mistake::TYPE_NAME),
+        (_, TokenClass::Keyword(_)) => Some(Mistake::RESERVED_NAME),
         _ => None,
     }
 }
@@ -64,17 +71,17 @@ fn name_mistake(a: &Around<'_>) -> Option<Mistake> {
 fn named_mistake(a: &Around<'_>) -> Option<Mistake> {
     match (a.second, a.found) {
         (TokenClass::Keyword(Keyword::Let), TokenClass::Symbol(Symbol::Open)) => {
-            Some(Mistake::FunctionForm)
+            Some(Mistake::FUNCTION_FORM)
         }
-        (TokenClass::Keyword(Keyword::Input), TokenClass::Type) => Some(Mistake::NoColon),
+        (TokenClass::Keyword(Keyword::Input), TokenClass::Type) => Some(Mistake::NO_COLON),
         (TokenClass::Keyword(Keyword::Output), TokenClass::Symbol(Symbol::Open)) => {
-            Some(Mistake::OutputRead)
+            Some(Mistake::OUTPUT_READ)
         }
         (TokenClass::Keyword(Keyword::Input), TokenClass::Symbol(Symbol::Comma)) => {
-            Some(Mistake::InputList)
+            Some(Mistake::INPUT_LIST)
         }
         (TokenClass::Keyword(Keyword::Output), TokenClass::Symbol(Symbol::Comma)) => {
-            Some(Mistake::OutputList)
+            Some(Mistake::OUTPUT_LIST)
         }
         _ => None,
     }
@@ -83,27 +90,27 @@ fn named_mistake(a: &Around<'_>) -> Option<Mistake> {
 // A word that begins no item, where a definition could begin.
 fn word_mistake(a: &Around<'_>) -> Mistake {
     match a.next {
-        TokenClass::Symbol(Symbol::Equal | Symbol::Colon) => Mistake::NoLet,
-        _ => Mistake::OtherItem,
+        TokenClass::Symbol(Symbol::Equal | Symbol::Colon) => Mistake::NO_LET,
+        _ => Mistake::OTHER_ITEM,
     }
 }
 
 // What stands where an input, a definition or an output could begin.
 fn item_mistake(a: &Around<'_>) -> Option<Mistake> {
     match a.found {
-        TokenClass::EndOfText => Some(Mistake::NoOutput),
-        TokenClass::Keyword(Keyword::Let | Keyword::Inline) => Some(Mistake::LateDefinition),
-        TokenClass::Keyword(Keyword::Input) => Some(Mistake::LateInput),
-        TokenClass::Keyword(Keyword::End) => Some(Mistake::ExtraEnd),
+        TokenClass::EndOfText => Some(Mistake::NO_OUTPUT),
+        TokenClass::Keyword(Keyword::Let | Keyword::Inline) => Some(Mistake::LATE_DEFINITION),
+        TokenClass::Keyword(Keyword::Input) => Some(Mistake::LATE_INPUT),
+        TokenClass::Keyword(Keyword::End) => Some(Mistake::EXTRA_END),
         TokenClass::Name if a.expects_keyword(Keyword::Let) => Some(word_mistake(a)),
         _ => None,
     }
 }
 
-/// The mistake of the items of a program.
+/// The mistake of the items of a program, after its front.
 pub(crate) fn program_mistake(a: &Around<'_>) -> Option<Mistake> {
-    if let Some(mistake) = size_mistake(a) {
-        return Some(mistake);
+    if expects_size(a) {
+        return Some(Mistake::NO_SIZE);
     }
     if let Some(mistake) = end_mistake(a) {
         return Some(mistake);
@@ -114,11 +121,11 @@ pub(crate) fn program_mistake(a: &Around<'_>) -> Option<Mistake> {
     if a.expects_only(TokenClass::Name) {
         name_mistake(a)
     } else if a.expects_only(TokenClass::Keyword(Keyword::Im)) {
-        Some(Mistake::NoIm)
+        Some(Mistake::NO_IM)
     } else if a.expects_only(TokenClass::Keyword(Keyword::Let)) {
-        Some(Mistake::NoLet)
+        Some(Mistake::NO_LET)
     } else if a.expects_only(TokenClass::Keyword(Keyword::Input)) {
-        Some(Mistake::NoInput)
+        Some(Mistake::NO_INPUT)
     } else if a.expects_keyword(Keyword::Output) {
         item_mistake(a)
     } else {

@@ -2,6 +2,7 @@
 
 use crate::around::{Around, caller_at, is_text};
 use crate::classes::{begins_operand, is_comparison, is_operator};
+use crate::helps::{too_few_help, too_many_help};
 use crate::mistake::Mistake;
 use dk_lexer::Symbol;
 use expected_tokens::TokenClass;
@@ -10,14 +11,14 @@ use source_words::Keyword;
 // The token in place of a coordinate.
 fn coordinate(a: &Around<'_>) -> Option<Mistake> {
     match (a.found, a.next) {
-        (TokenClass::Number, TokenClass::Symbol(Symbol::Star)) => Some(Mistake::Scaled),
-        (TokenClass::Number, TokenClass::Name | TokenClass::Keyword(_)) => Some(Mistake::Scaled),
+        (TokenClass::Number, TokenClass::Symbol(Symbol::Star)) => Some(Mistake::SCALED),
+        (TokenClass::Number, TokenClass::Name | TokenClass::Keyword(_)) => Some(Mistake::SCALED),
         (TokenClass::Number | TokenClass::Symbol(Symbol::Minus | Symbol::Plus), _) => {
-            Some(Mistake::OffsetFirst)
+            Some(Mistake::OFFSET_FIRST)
         }
-        (TokenClass::Keyword(Keyword::X | Keyword::Y), _) => Some(Mistake::Swapped),
-        (TokenClass::Symbol(Symbol::Close), _) => Some(Mistake::OneCoordinate),
-        (TokenClass::Name, _) => Some(Mistake::OtherCoordinate),
+        (TokenClass::Keyword(Keyword::X | Keyword::Y), _) => Some(Mistake::SWAPPED),
+        (TokenClass::Symbol(Symbol::Close), _) => Some(Mistake::ONE_COORDINATE),
+        (TokenClass::Name, _) => Some(Mistake::OTHER_COORDINATE),
         _ => None,
     }
 }
@@ -25,11 +26,11 @@ fn coordinate(a: &Around<'_>) -> Option<Mistake> {
 // The token after a coordinate or its offset.
 fn after_coordinate(a: &Around<'_>) -> Option<Mistake> {
     match a.found {
-        TokenClass::Symbol(Symbol::Star | Symbol::Slash) => Some(Mistake::Scaled),
-        TokenClass::Symbol(Symbol::ShiftLeft | Symbol::ShiftRight) => Some(Mistake::Scaled),
-        TokenClass::Symbol(Symbol::Plus | Symbol::Minus) => Some(Mistake::TwoOffsets),
-        TokenClass::Symbol(Symbol::Close) => Some(Mistake::OneCoordinate),
-        TokenClass::Symbol(Symbol::Comma) => Some(Mistake::ThirdCoordinate),
+        TokenClass::Symbol(Symbol::Star | Symbol::Slash) => Some(Mistake::SCALED),
+        TokenClass::Symbol(Symbol::ShiftLeft | Symbol::ShiftRight) => Some(Mistake::SCALED),
+        TokenClass::Symbol(Symbol::Plus | Symbol::Minus) => Some(Mistake::TWO_OFFSETS),
+        TokenClass::Symbol(Symbol::Close) => Some(Mistake::ONE_COORDINATE),
+        TokenClass::Symbol(Symbol::Comma) => Some(Mistake::THIRD_COORDINATE),
         TokenClass::Keyword(_) if a.expects_symbol(Symbol::Close) => Some(Mistake::Unclosed),
         _ => None,
     }
@@ -38,8 +39,8 @@ fn after_coordinate(a: &Around<'_>) -> Option<Mistake> {
 // The token in place of the number of an offset.
 fn offset(a: &Around<'_>) -> Option<Mistake> {
     match a.found {
-        TokenClass::Name | TokenClass::Symbol(Symbol::Open) => Some(Mistake::NamedOffset),
-        TokenClass::Symbol(Symbol::Plus | Symbol::Minus) => Some(Mistake::TwoOffsets),
+        TokenClass::Name | TokenClass::Symbol(Symbol::Open) => Some(Mistake::NAMED_OFFSET),
+        TokenClass::Symbol(Symbol::Plus | Symbol::Minus) => Some(Mistake::TWO_OFFSETS),
         _ => None,
     }
 }
@@ -67,7 +68,7 @@ fn expects_coordinate(a: &Around<'_>) -> bool {
 pub(crate) fn read_mistake(a: &Around<'_>) -> Option<Mistake> {
     let caller = caller_at(a.source.tokens, a.place);
     if matches!(caller, TokenClass::Keyword(Keyword::Im)) {
-        return Some(Mistake::ImCoordinates);
+        return Some(Mistake::IM_COORDINATES);
     }
     if !matches!(caller, TokenClass::Name) {
         return None;
@@ -89,9 +90,9 @@ fn number_mistake(a: &Around<'_>) -> Option<Mistake> {
         (
             TokenClass::Symbol(Symbol::Slash | Symbol::ShiftLeft | Symbol::ShiftRight),
             TokenClass::Number,
-        ) if is_operator(a.found) && !is_comparison(a.found) => { Some(Mistake::AfterNumber) }
-        (_, TokenClass::Symbol(Symbol::Slash)) => Some(Mistake::Divisor),
-        (_, TokenClass::Symbol(Symbol::ShiftLeft | Symbol::ShiftRight)) => Some(Mistake::Shift),
+        ) if is_operator(a.found) && !is_comparison(a.found) => { Some(Mistake::AFTER_NUMBER) }
+        (_, TokenClass::Symbol(Symbol::Slash)) => Some(Mistake::DIVISOR),
+        (_, TokenClass::Symbol(Symbol::ShiftLeft | Symbol::ShiftRight)) => Some(Mistake::SHIFT),
         _ => None,
     }
 }
@@ -103,13 +104,13 @@ fn operands_mistake(a: &Around<'_>) -> Option<Mistake> {
     };
     match a.found {
         TokenClass::Symbol(Symbol::Comma) if a.expects_symbol(Symbol::Close) => {
-            Some(Mistake::TooManyOperands(function))
+            Some(Mistake::Help(too_many_help(function)))
         }
         TokenClass::Symbol(Symbol::Close) if a.expects_symbol(Symbol::Comma) => {
-            Some(Mistake::TooFewOperands(function))
+            Some(Mistake::Help(too_few_help(function)))
         }
         TokenClass::Symbol(Symbol::Close) if a.expects_operand() => {
-            Some(Mistake::TooFewOperands(function))
+            Some(Mistake::Help(too_few_help(function)))
         }
         _ => None,
     }
@@ -118,9 +119,9 @@ fn operands_mistake(a: &Around<'_>) -> Option<Mistake> {
 // What stands where an operand begins.
 fn operand_mistake(a: &Around<'_>) -> Option<Mistake> {
     match a.found {
-        TokenClass::Keyword(Keyword::X | Keyword::Y) => Some(Mistake::Coordinate),
-        TokenClass::Symbol(Symbol::Minus | Symbol::Bang) => Some(Mistake::TwoSigns),
-        TokenClass::Symbol(Symbol::Plus) => Some(Mistake::PlusSign),
+        TokenClass::Keyword(Keyword::X | Keyword::Y) => Some(Mistake::COORDINATE),
+        TokenClass::Symbol(Symbol::Minus | Symbol::Bang) => Some(Mistake::TWO_SIGNS),
+        TokenClass::Symbol(Symbol::Plus) => Some(Mistake::PLUS_SIGN),
         _ => None,
     }
 }
@@ -128,13 +129,13 @@ fn operand_mistake(a: &Around<'_>) -> Option<Mistake> {
 // What stands where an operator could stand.
 fn operator_mistake(a: &Around<'_>) -> Option<Mistake> {
     if is_comparison(a.found) {
-        return Some(Mistake::Chain);
+        return Some(Mistake::CHAIN);
     }
     match a.found {
-        TokenClass::Keyword(Keyword::Edge) => Some(Mistake::EdgeAfterOther),
-        TokenClass::Keyword(Keyword::Clamp) => Some(Mistake::OtherEdge),
-        TokenClass::Symbol(Symbol::Close) => Some(Mistake::Unopened),
-        found if begins_operand(found) => Some(Mistake::NoOperator),
+        TokenClass::Keyword(Keyword::Edge) => Some(Mistake::EDGE_AFTER_OTHER),
+        TokenClass::Keyword(Keyword::Clamp) => Some(Mistake::OTHER_EDGE),
+        TokenClass::Symbol(Symbol::Close) => Some(Mistake::UNOPENED),
+        found if begins_operand(found) => Some(Mistake::NO_OPERATOR),
         _ => None,
     }
 }
@@ -148,7 +149,7 @@ pub(crate) fn expression_mistake(a: &Around<'_>) -> Option<Mistake> {
         return Some(mistake);
     }
     if a.expects_only(TokenClass::Keyword(Keyword::Clamp)) {
-        Some(Mistake::OtherEdge)
+        Some(Mistake::OTHER_EDGE)
     } else if a.expects_operand() {
         operand_mistake(a)
     } else if a.expects_operator() {
@@ -157,9 +158,9 @@ pub(crate) fn expression_mistake(a: &Around<'_>) -> Option<Mistake> {
         && matches!(a.first, TokenClass::Name)
     {
         Some(if is_text(a.bytes_before(), b"if") {
-            Mistake::Condition
+            Mistake::CONDITION
         } else {
-            Mistake::NoRead
+            Mistake::NO_READ
         })
     } else {
         None

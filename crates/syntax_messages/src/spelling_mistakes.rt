@@ -1,6 +1,7 @@
 // Mistakes of spelling.
 
 use crate::around::{Around, is_text, touches};
+use crate::helps::is_among;
 use crate::mistake::Mistake;
 use dk_lexer::Symbol;
 use expected_tokens::TokenClass;
@@ -38,15 +39,15 @@ fn is_comment(a: &Around<'_>) -> bool {
 // Symbols that other languages write with two characters.
 fn doubled(a: &Around<'_>) -> Option<Mistake> {
     if is_comment(a) {
-        Some(Mistake::Comment)
+        Some(Mistake::COMMENT)
     } else if is_pair(a, Symbol::Ampersand, Symbol::Ampersand) {
-        Some(Mistake::DoubledAnd)
+        Some(Mistake::DOUBLED_AND)
     } else if is_pair(a, Symbol::Bar, Symbol::Bar) {
-        Some(Mistake::DoubledOr)
+        Some(Mistake::DOUBLED_OR)
     } else if is_pair(a, Symbol::Star, Symbol::Star) {
-        Some(Mistake::Power)
+        Some(Mistake::POWER)
     } else if a.expects_operator() && matches!(a.found, TokenClass::Symbol(Symbol::Equal)) {
-        Some(Mistake::Assignment)
+        Some(Mistake::ASSIGNMENT)
     } else {
         None
     }
@@ -77,7 +78,7 @@ fn number_word(a: &Around<'_>) -> Option<Mistake> {
             } else if is_text(a.bytes_before(), b"0") && is_base(a.bytes()) {
                 Some(Mistake::Radix)
             } else {
-                Some(Mistake::NumberThenWord)
+                Some(Mistake::NUMBER_THEN_WORD)
             }
         }
         _ => None,
@@ -112,10 +113,7 @@ fn upper_case(alloc: Global, a: &Around<'_>) -> Option<Mistake> {
 
 // Whether the word is a type of fractions in another language.
 fn is_fraction(word: &[u8]) -> bool {
-    match word {
-        b"float" | b"double" | b"half" | b"real" | b"fixed" => true,
-        _ => false,
-    }
+    is_among("float double half real fixed", word)
 }
 
 // What is no type, where a type must be.
@@ -123,7 +121,7 @@ fn type_word(a: &Around<'_>) -> Option<Mistake> {
     if !a.expects_only(TokenClass::Type) {
         None
     } else if is_fraction(a.bytes()) {
-        Some(Mistake::Fractions)
+        Some(Mistake::FRACTIONS)
     } else {
         Some(Mistake::NoType)
     }
