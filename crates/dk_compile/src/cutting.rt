@@ -87,7 +87,6 @@ fn improves(old: &Program, new: &Program, most: u32) -> bool
 }
 
 // The cut text, which has this program, if it improves the source.
-#[tactic(auto, using(crate::proofs::Same::improved_of))]
 fn improved(
     alloc: Global,
     source: &Source<'_>,
@@ -112,6 +111,7 @@ fn improved(
 }
 
 // What the source is cut to, by one proposal after another. A body that the check refuses stays whole.
+#[tactic(auto, using(crate::proofs::Same::kept_by, crate::proofs::Same::accepted_by))]
 fn proposed(alloc: Global, source: &Source<'_>) -> Result<Outcome, OutOfMemory>
     requires source { IsDeepSource source.now.text.now source.now.old.now source.now.form.now source.now.levels }
     ensures { IfOk result (IsOutcome source.now.text.now source.now.levels) }
