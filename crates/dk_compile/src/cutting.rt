@@ -111,7 +111,6 @@ fn improved(
 }
 
 // What the source is cut to, by one proposal after another. A body that the check refuses stays whole.
-#[tactic(auto, using(crate::proofs::Same::kept_by, crate::proofs::Same::accepted_by))]
 fn proposed(alloc: Global, source: &Source<'_>) -> Result<Outcome, OutOfMemory>
     requires source { IsDeepSource source.now.text.now source.now.old.now source.now.form.now source.now.levels }
     ensures { IfOk result (IsOutcome source.now.text.now source.now.levels) }
