@@ -101,7 +101,7 @@ same_of_forms old new a b of_old of_new same =
     }
 
 -- a text whose program has a form that shows the pictures of the source's form
-pub keeps_of : (source text : List ℕ) (p q : Typing) (old : Program) → HasForm source p old → ShowsFormOf old text q → KeepsPictures source text
+keeps_of : (source text : List ℕ) (p q : Typing) (old : Program) → HasForm source p old → ShowsFormOf old text q → KeepsPictures source text
 keeps_of source text p q old has shows = record {
   old = p;
   new = q;
@@ -109,6 +109,13 @@ keeps_of source text p q old has shows = record {
   accepted = shows.has.accepted;
   same = same_of_forms p q old shows.new has.form shows.has.form shows.same;
 }
+
+-- the same of a text that is what was judged
+pub kept_by : (source text shown : List ℕ) (p q : Typing) (old : Program) → HasForm source p old → ShowsFormOf old shown q → shown ≡ text → KeepsPictures source text
+kept_by source text shown p q old has shows same = subst (λ (t : List ℕ). KeepsPictures source t) same (keeps_of source shown p q old has shows)
+
+pub accepted_by : (text shown : List ℕ) (q : Typing) (old : Program) → ShowsFormOf old shown q → shown ≡ text → IsAccepted text q
+accepted_by text shown q old shows same = subst (λ (t : List ℕ). IsAccepted t q) same shows.has.accepted
 
 -- a text that is accepted keeps its own pictures
 pub keeps_itself : (source : List ℕ) (p : Typing) → IsAccepted source p → KeepsPictures source source

@@ -87,7 +87,6 @@ fn improves(old: &Program, new: &Program, most: u32) -> bool
 }
 
 // The cut text, which has this program, if it improves the source.
-#[tactic(auto, using(crate::proofs::Same::improved_of))]
 fn improved(
     alloc: Global,
     source: &Source<'_>,
