@@ -50,23 +50,33 @@ TakesNumber ShiftRight k = k ≤ 63
 
 -- Operands that a binary operator takes.
 pub record AreArguments (b : Netlist) (operator : Binary) (p q : Operand) : Type 0 where
+  -- the first is an operand
   pub x : IsOperand b p
+  -- the second is an operand
   pub y : IsOperand b q
+  -- the operator takes their types
   pub takes : IsTrue (are_operands operator p.ty q.ty)
   -- a type that has the numbers of both
   pub common : IsType (common_type p.ty q.ty)
+  -- the result has a type
   pub ty : IsType (binary_result operator p.ty q.ty)
 
 -- An operand that a unary operator takes.
 pub record IsArgument (b : Netlist) (operator : Unary) (p : Operand) : Type 0 where
+  -- it is an operand
   pub x : IsOperand b p
+  -- the operator takes its type
   pub takes : TakesOperand operator p.ty
+  -- the result has a type
   pub ty : IsType (unary_result operator p.ty)
 
 -- An operand and a number that an operator with a written number takes.
 pub record IsScaled (b : Netlist) (operator : Scaling) (p : Operand) (k : ℕ) : Type 0 where
+  -- it is an operand
   pub x : IsOperand b p
+  -- the operator takes the number
   pub by : TakesNumber operator k
+  -- the result has a type
   pub ty : IsType (scaling_result operator p.ty k)
 
 -- one bit denotes a shifted part, none where it is clamped
