@@ -1,5 +1,5 @@
 -- Operands that carry the values of operators.
-use Rattle.std.proofs.Common.{ℕ, ◌≡◌, ◌+◌, ◌-◌, ◌%◌, ◌^◌, ◌<◌, ◌≤◌, ℤ, pos, ◌-ℤ◌, ap, refl, subst, sym, ◌∙◌, arith}
+use Rattle.std.proofs.Common.{ℕ, List, ◌≡◌, ◌+◌, ◌-◌, ◌%◌, ◌^◌, ◌<◌, ◌≤◌, ℤ, pos, ◌-ℤ◌, ap, refl, subst, sym, ◌∙◌, arith}
 use Rattle.dk_base.specs.declared.ty.Ty.{Ty}
 use Rattle.dk_base.specs.Types.{IsType, IsIn, width_of}
 use Rattle.dk_base.specs.Numbers.{code, number, wrap}
@@ -9,14 +9,16 @@ use Rattle.dk_base.proofs.Congruence.{code_below}
 use Rattle.std.proofs.Math.Pow.{pow_mono}
 use Rattle.dk_base.proofs.Ranges.{negation_in}
 use Rattle.std.proofs.lemmas.Nat.{pow_pos}
-use Rattle.datapath.specs.Nets.{IsValuation, IsPartOf, Grows, HasWidth, IsWord, InEachFit, bits_of}
+use Rattle.datapath.specs.Nets.{IsValuation, IsPartOf, Grows, HasWidth, IsWord, IsWordOver, InEachFit, bits_of}
 use Rattle.wiring.specs.Snapshot.{Snapshot}
+use Rattle.wiring.specs.Sizes.{IsWidth}
 use Rattle.datapath.proofs.Growth.{fits_later, width_more, width_later, part_on}
 use Rattle.datapath.specs.declared.operand.Signal.{Signal}
 use Rattle.wiring.specs.Netlist.{Netlist}
 use Rattle.datapath.specs.declared.operand.Signal.TheVariants as signal
 use Rattle.datapath.specs.declared.operand.Operand.{Operand}
-use Rattle.datapath.specs.Operands.{IsOperand, Carries, worth}
+use Rattle.datapath.specs.Operands.{IsOperand, Carries, CarriesOver, worth}
+use Rattle.datapath.proofs.Composed.{carries_over}
 
 pub operand_more : (a b : Netlist) (x : Operand) → IsPartOf a b → IsOperand a x → IsOperand b x
 operand_more a b x grows h = record { ty = h.ty; width = width_more a b x.bits (width_of x.ty) grows h.width }
@@ -44,26 +46,16 @@ carries b r t ty w f e d ok word inside =
           number_is t (f nets) _ ok (inside later nets grows holds) (word.value later nets grows holds ∙ ap (λ n. code n (f nets)) k);
     }
 
--- the bits of an operator on the bits of two operands
-pub binary_carries : (F : (w p q : ℕ) → ℕ) (G : ℤ → ℤ → ℤ) → ((w : ℕ) (v u : ℤ) → code w (G v u) ≡ F w (code w v) (code w u)) →
-    (a b c d : Netlist) (x y : Operand) (p q r : Signal) (t ty : Ty) (w : ℕ) →
-    ((v u : ℤ) → IsIn x.ty v → IsIn y.ty u → IsIn t (G v u)) →
-    ty ≡ t → w ≡ width_of ty → IsType t → IsOperand a x → IsOperand a y → IsPartOf a b → IsPartOf b c → IsPartOf c d →
-    IsWord b p w (λ nets. code w (worth nets x)) → IsWord c q w (λ nets. code w (worth nets y)) → IsWord d r w (λ nets. F w (bits_of nets p) (bits_of nets q)) →
-    Carries d (record { bits = r; ty = ty }) t (λ nets. G (worth nets x) (worth nets y))
-binary_carries F G law a b c d x y p q r t ty w range e k ok ox oy ab bc cd left right word =
-    carries d r t ty w (λ nets. G (worth nets x) (worth nets y)) e k ok
-    (record {
-      width = word.width;
-      value = λ later nets grows holds.
-          let from_c = part_on c d later cd grows in
-          let from_b = part_on b c later bc from_c in
-          word.value later nets grows holds ∙ ap (λ n. F w n (bits_of nets q)) (left.value later nets from_b holds) ∙
-          ap (λ n. F w (code w (worth nets x)) n) (right.value later nets from_c holds) ∙ sym (law w (worth nets x) (worth nets y));
-    })
+-- an operator on the bits of two operands
+pub binary_carries : (F : (w p q : ℕ) → ℕ) (G : ℤ → ℤ → ℤ) → ((w : ℕ) (v u : ℤ) → code w (G v u) ≡ F w (code w v) (code w u)) → (x y : Operand) {a d : Netlist} {k : ℕ} {xs : List Signal} {r : Signal} {t ty : Ty} {w : ℕ} →
+    ((v u : ℤ) → IsIn x.ty v → IsIn y.ty u → IsIn t (G v u)) → ty ≡ t → w ≡ width_of ty → IsType t → IsOperand a x → IsOperand a y → IsWordOver a d k xs w (λ nets. F w (code w (worth nets x)) (code w (worth nets y))) r →
+    CarriesOver a d k xs t (λ nets. G (worth nets x) (worth nets y)) (record { bits = r; ty = ty })
+binary_carries F G law x y {a} {d} {k} {xs} {r} {t} {ty} {w} range e is ok ox oy h =
+    carries_over h (carries d r t ty w (λ nets. G (worth nets x) (worth nets y)) e is ok
+    (record { width = h.word.width; value = λ later nets grows holds. h.word.value later nets grows holds ∙ sym (law w (worth nets x) (worth nets y)) })
     (λ later nets grows holds.
-    let from_a = part_on a b later ab (part_on b c later bc (part_on c d later cd grows)) in
-    range (worth nets x) (worth nets y) (worth_in a later x nets ox from_a holds) (worth_in a later y nets oy from_a holds))
+    let from_a = part_on a d later h.grows.includes grows in
+    range (worth nets x) (worth nets y) (worth_in a later x nets ox from_a holds) (worth_in a later y nets oy from_a holds)))
 
 -- nothing less a number
 pub negation_carries : (a b d : Netlist) (x : Operand) (z q r : Signal) (w n : ℕ) → n ≡ width_of x.ty → w ≡ n + 1 →
@@ -100,3 +92,17 @@ code_small t v ok =
     let b = code_below (width_of t) v in
     let p : 2 ^ width_of t ≤ 2 ^ 64 = pow_mono ok.most in
     omega (arith, b, p)
+
+pub negated_width : (x : Operand) (n : ℕ) → n ≡ width_of x.ty → IsType (Signed (width_of x.ty + 1)) → IsWidth (n + 1)
+negated_width x n e ok = subst (λ w. IsWidth (w + 1)) (sym e) (ok.some, ok.most)
+
+-- the bits of a number in another type
+pub cast_carries : (x : Operand) (ty : Ty) {a d : Netlist} {k : ℕ} {xs : List Signal} {r : Signal} {w : ℕ} → w ≡ width_of ty → IsType ty → IsWordOver a d k xs w (λ nets. code w (worth nets x)) r →
+    CarriesOver a d k xs ty (λ nets. wrap ty (worth nets x)) (record { bits = r; ty = ty })
+cast_carries x ty {a} {d} {k} {xs} {r} {w} e ok h =
+    let W : ℕ → Type 0 = λ n. HasWidth d r n in
+    carries_over h (record {
+      is = refl;
+      operand = record { ty = ok; width = subst W e h.word.width };
+      value = λ later nets grows holds. ap (number ty) (h.word.value later nets grows holds ∙ ap (λ n. code n (worth nets x)) e);
+    })

@@ -1,5 +1,5 @@
 -- Operands that carry comparisons and choices.
-use Rattle.std.proofs.Common.{ℕ, zero, suc, ◌≡◌, ◌+◌, ◌-◌, ◌%◌, ◌<◌, ◌^◌, Bool, true, false, nat_lt, nat_eq, if◌then◌else◌, ℤ, pos, negsuc, ◌+ℤ◌, ◌-ℤ◌, not, int_lt, unsigned_abs, ap, refl, subst, sym, ◌∙◌, arith, inl, inr}
+use Rattle.std.proofs.Common.{ℕ, List, zero, suc, ◌≡◌, ◌+◌, ◌-◌, ◌%◌, ◌<◌, ◌^◌, Bool, true, false, nat_lt, nat_eq, if◌then◌else◌, ℤ, pos, negsuc, ◌+ℤ◌, ◌-ℤ◌, not, int_lt, unsigned_abs, ap, refl, subst, sym, ◌∙◌, arith, inl, inr}
 use Rattle.std.specs.Ordering.{int_eq}
 use Rattle.std.specs.Int.{int_min, int_max}
 use Rattle.std.proofs.lemmas.Bool.{cases_eq}
@@ -10,13 +10,14 @@ use Rattle.dk_base.specs.Numbers.{code, number}
 use Rattle.dk_base.proofs.Codes.{number_low}
 use Rattle.dk_base.proofs.Ranges.{in_wider, common_left, common_right}
 use Rattle.dk_base.proofs.Compare.{offset_unsigned, offset_signed, less_by_offset, equal_by_code}
-use Rattle.datapath.specs.Nets.{IsPartOf, IsWord, bits_of, bit}
+use Rattle.datapath.specs.Nets.{IsPartOf, IsWord, IsWordOver, bits_of, bit}
 use Rattle.wiring.specs.Snapshot.{Snapshot}
 use Rattle.datapath.proofs.Growth.{fits_later, part_on}
 use Rattle.datapath.specs.declared.operand.Signal.{Signal}
 use Rattle.wiring.specs.Netlist.{Netlist}
 use Rattle.datapath.specs.declared.operand.Operand.{Operand}
-use Rattle.datapath.specs.Operands.{IsOperand, Carries, worth}
+use Rattle.datapath.specs.Operands.{IsOperand, Carries, CarriesOver, worth}
+use Rattle.datapath.proofs.Composed.{carries_over}
 use Rattle.dk_base.specs.Operators.{truth, select_value as chosen}
 use Rattle.datapath.proofs.Carried.{worth_in, carries}
 
@@ -70,42 +71,33 @@ bit_carries b r f word = record {
   value = λ later nets grows holds. ap (number (Unsigned 1)) (word.value later nets grows holds) ∙ truth_of_bit (f nets);
 }
 
-pub less_carries : (a b c d : Netlist) (x y : Operand) (p q r : Signal) (ty : Ty) (u v : ℕ) → ty ≡ common_type x.ty y.ty → IsOperand a x → IsOperand a y → IsPartOf a b → IsPartOf b c → IsPartOf c d →
-    IsWord b p u (λ nets. unsigned_abs (worth nets x +ℤ pos (below ty))) → IsWord c q v (λ nets. unsigned_abs (worth nets y +ℤ pos (below ty))) →
-    IsWord d r 1 (λ nets. bit (nat_lt (bits_of nets p) (bits_of nets q))) →
-    Carries d (record { bits = r; ty = Unsigned 1 }) (Unsigned 1) (λ nets. truth (int_lt (worth nets x) (worth nets y)))
-less_carries a b c d x y p q r ty u v e ox oy ab bc cd left right word =
-    bit_carries d r (λ nets. int_lt (worth nets x) (worth nets y)) (record {
-      width = word.width;
+pub less_carries : (x y : Operand) (ty : Ty) {a d : Netlist} {k : ℕ} {xs : List Signal} {r : Signal} → ty ≡ common_type x.ty y.ty → IsOperand a x → IsOperand a y →
+    IsWordOver a d k xs 1 (λ nets. bit (nat_lt (unsigned_abs (worth nets x +ℤ pos (below ty))) (unsigned_abs (worth nets y +ℤ pos (below ty))))) r →
+    CarriesOver a d k xs (Unsigned 1) (λ nets. truth (int_lt (worth nets x) (worth nets y))) (record { bits = r; ty = Unsigned 1 })
+less_carries x y ty {a} {d} {k} {xs} {r} e ox oy h =
+    carries_over h (bit_carries d r (λ nets. int_lt (worth nets x) (worth nets y)) (record {
+      width = h.word.width;
       value = λ later nets grows holds.
-          let from_c = part_on c d later cd grows in
-          let from_b = part_on b c later bc from_c in
-          let from_a = part_on a b later ab from_b in
+          let from_a = part_on a d later h.grows.includes grows in
           let hx = in_wider x.ty ty (worth nets x) (within_left x.ty y.ty ty e) (worth_in a later x nets ox from_a holds) in
           let hy = in_wider y.ty ty (worth nets y) (within_right x.ty y.ty ty e) (worth_in a later y nets oy from_a holds) in
-          word.value later nets grows holds ∙ ap (λ n. bit (nat_lt n (bits_of nets q))) (left.value later nets from_b holds) ∙
-          ap (λ n. bit (nat_lt (unsigned_abs (worth nets x +ℤ pos (below ty))) n)) (right.value later nets from_c holds) ∙
-          ap bit (less_by_offset (below ty) (worth nets x) (worth nets y) hx.least hy.least);
-    })
+          h.word.value later nets grows holds ∙ ap bit (less_by_offset (below ty) (worth nets x) (worth nets y) hx.least hy.least);
+    }))
 
-pub equal_carries : (a b c d : Netlist) (x y : Operand) (p q r : Signal) (ty : Ty) (w : ℕ) → ty ≡ common_type x.ty y.ty → w ≡ width_of ty → IsType (common_type x.ty y.ty) → IsOperand a x → IsOperand a y → IsPartOf a b → IsPartOf b c → IsPartOf c d →
-    IsWord b p w (λ nets. code w (worth nets x)) → IsWord c q w (λ nets. code w (worth nets y)) →
-    IsWord d r 1 (λ nets. bit (nat_eq (bits_of nets p) (bits_of nets q))) →
-    Carries d (record { bits = r; ty = Unsigned 1 }) (Unsigned 1) (λ nets. truth (int_eq (worth nets x) (worth nets y)))
-equal_carries a b c d x y p q r ty w e k ok ox oy ab bc cd left right word =
-    bit_carries d r (λ nets. int_eq (worth nets x) (worth nets y)) (record {
-      width = word.width;
+pub equal_carries : (x y : Operand) (ty : Ty) (w : ℕ) {a d : Netlist} {k : ℕ} {xs : List Signal} {r : Signal} → ty ≡ common_type x.ty y.ty → w ≡ width_of ty → IsType (common_type x.ty y.ty) → IsOperand a x → IsOperand a y →
+    IsWordOver a d k xs 1 (λ nets. bit (nat_eq (code w (worth nets x)) (code w (worth nets y)))) r →
+    CarriesOver a d k xs (Unsigned 1) (λ nets. truth (int_eq (worth nets x) (worth nets y))) (record { bits = r; ty = Unsigned 1 })
+equal_carries x y ty w {a} {d} {k} {xs} {r} e is ok ox oy h =
+    carries_over h (bit_carries d r (λ nets. int_eq (worth nets x) (worth nets y)) (record {
+      width = h.word.width;
       value = λ later nets grows holds.
-          let from_c = part_on c d later cd grows in
-          let from_b = part_on b c later bc from_c in
-          let from_a = part_on a b later ab from_b in
+          let from_a = part_on a d later h.grows.includes grows in
           let hx = in_wider x.ty ty (worth nets x) (within_left x.ty y.ty ty e) (worth_in a later x nets ox from_a holds) in
           let hy = in_wider y.ty ty (worth nets y) (within_right x.ty y.ty ty e) (worth_in a later y nets oy from_a holds) in
           let Q : Ty → Type 0 = λ t. IsType t in
-          word.value later nets grows holds ∙ ap (λ n. bit (nat_eq n (bits_of nets q))) (left.value later nets from_b holds ∙ ap (λ n. code n (worth nets x)) k) ∙
-          ap (λ n. bit (nat_eq (code (width_of ty) (worth nets x)) n)) (right.value later nets from_c holds ∙ ap (λ n. code n (worth nets y)) k) ∙
+          h.word.value later nets grows holds ∙ ap (λ n. bit (nat_eq (code n (worth nets x)) (code n (worth nets y)))) is ∙
           ap bit (equal_by_code ty (worth nets x) (worth nets y) (subst Q (sym e) ok) hx hy);
-    })
+    }))
 
 two : (n w : ℕ) (v u : ℤ) → n < 2 ^ 1 → (if nat_eq n 1 then code w v else code w u) ≡ code w (chosen (pos n) v u)
 two n w v u h = elim (cases_eq n 1) [

@@ -1,6 +1,6 @@
 -- Operators of constants.
-use Rattle.std.proofs.Common.{ℕ, Bool, false, ◌≡◌, ◌+◌, ◌*◌, ◌<◌, ◌≤◌, ◌^◌, [], ◌∷◌, Option, Some, None, nat_eq, if◌then◌else◌, ap, refl, subst, sym, ◌∙◌, arith, lit<}
-use Rattle.std.specs.Prelude.{All, Contains, IsSome}
+use Rattle.std.proofs.Common.{ℕ, ◌≡◌, ◌+◌, ◌*◌, ◌<◌, ◌≤◌, ◌^◌, [], ◌∷◌, Some, nat_eq, if◌then◌else◌, ap, refl, subst, sym, ◌∙◌, arith, lit<}
+use Rattle.std.specs.Prelude.{All, Contains}
 use Rattle.std.proofs.Math.Pow.{pow_mono}
 use Rattle.std.proofs.lemmas.Option.{same_Some}
 use Rattle.std.proofs.lemmas.List.Elements.{All-nil, All-cons, All-head}
@@ -93,12 +93,18 @@ all_copies count bit ones e all = let p = copies_one count in (let q : ones ≡ 
 pub result_fits : (b : Netlist) (o : Operator) (x y : Signal) (w left right u v : ℕ) → HasWidth b x w → HasWidth b y w → known_value x ≡ Some left → known_value y ≡ Some right → u ≡ operator_width o w → v ≡ operator_value o w left right → v < 2 ^ u
 result_fits b o x y w left right u v hx hy ex ey e f = subst (λ n. v < 2 ^ n) (sym e) (subst (λ n. n < 2 ^ operator_width o w) (sym f) (operator_fits b o x y w left right hx hy ex ey))
 
-pub not_none : {X : Type 0} (o : Option X) → o ≡ None → IsSome o → ⊥
-not_none {X} None e h = let f : ⊥ = cc in f
-not_none {X} (Some x) e h = let f : ⊥ = cc in f
+pub first_word : (b : Netlist) (c x y : Signal) (w bit : ℕ) → known_value c ≡ Some bit → bit ≡ 1 → HasWidth b x w → IsWord b x w (λ s. if nat_eq (bits_of s c) 1 then bits_of s x else bits_of s y)
+first_word b c x y w bit e on h = record {
+  width = h;
+  value = λ m s more is. sym (ap (λ v. if nat_eq v 1 then bits_of s x else bits_of s y) (bits_known c bit s e ∙ on));
+}
 
-pub other_word : (b : Netlist) (c x y : Signal) (w bit : ℕ) → known_value c ≡ Some bit → nat_eq bit 1 ≡ false → HasWidth b y w → IsWord b y w (λ s. if nat_eq (bits_of s c) 1 then bits_of s x else bits_of s y)
+pub other_word : (b : Netlist) (c x y : Signal) (w bit : ℕ) → known_value c ≡ Some bit → bit ≡ 0 → HasWidth b y w → IsWord b y w (λ s. if nat_eq (bits_of s c) 1 then bits_of s x else bits_of s y)
 other_word b c x y w bit e off h = record {
   width = h;
-  value = λ m s more is. sym (ap (λ v. if nat_eq v 1 then bits_of s x else bits_of s y) (bits_known c bit s e) ∙ ap (λ (t : Bool). if t then bits_of s x else bits_of s y) off);
+  value = λ m s more is. sym (ap (λ v. if nat_eq v 1 then bits_of s x else bits_of s y) (bits_known c bit s e ∙ off));
 }
+
+-- the same thing under another name
+pub same_word : (b : Netlist) (x y : Signal) (w : ℕ) → x ≡ y → HasWidth b x w → IsWord b y w (λ s. bits_of s x)
+same_word b x y w e h = subst (λ z. IsWord b z w (λ s. bits_of s x)) e (record { width = h; value = λ m s more is. refl })

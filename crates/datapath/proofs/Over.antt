@@ -1,5 +1,5 @@
 -- Of what nets and constants are made, and with how many operators on a path.
-use Rattle.std.proofs.Common.{ℕ, ◌+◌, ◌≤◌, ◌≡◌, Bool, List, [], ◌∷◌, ◌++◌, subst, sym, Result, Ok, Err, IfOk, arith}
+use Rattle.std.proofs.Common.{ℕ, ◌+◌, ◌≤◌, ◌≡◌, Bool, List, [], ◌∷◌, ◌++◌, subst, sym, arith}
 use Rattle.std.specs.Prelude.{All}
 use Rattle.std.proofs.lemmas.List.Elements.{All-nil, All-cons, All-append}
 use Rattle.wiring.specs.declared.right.Atom.{Atom}
@@ -14,7 +14,6 @@ use Rattle.net_build.specs.Depth.{IsWithin}
 use Rattle.net_build.proofs.Depth.{within_deeper}
 use Rattle.datapath.specs.declared.operand.Signal.{Signal}
 use Rattle.datapath.specs.declared.operand.Signal.TheVariants as signal
-use Rattle.datapath.specs.declared.operand.Operand.{Operand}
 use Rattle.datapath.specs.Nets.{IsPartOf, IsMade, IsMadeOver, IsLimited, IsNetOf, atom_of}
 use Rattle.datapath.proofs.Growth.{part_on}
 
@@ -77,11 +76,6 @@ three_over {b} {c} {d} {i} j {o} {x} {y} {p} {q} {r} bc cd f g h = record {
       let on = part_on c d m cd more in
       made_deeper m base r (omega arith) (h.made m base (j + n) more (made_deeper m base o (omega arith) is.0, (f.made m base n (part_on b c m bc on) (is.1.0, tt), (g.made m base n on (is.1.1.0, tt), tt))));
 }
-
--- the operands the other way round
-pub turned_ok : {E : Type 0} (b : Netlist) (k l : ℕ) (x y : Signal) (answer : Result Operand E) → l ≡ k → IfOk answer (λ r. IsMadeOver b k r.bits (y ∷ (x ∷ []))) → IfOk answer (λ r. IsMadeOver b l r.bits (x ∷ (y ∷ [])))
-turned_ok b k l x y (Ok r) e h = over_deeper (let g : k + 0 ≤ l = omega (arith, e) in g) (then_two 0 h second_over first_over)
-turned_ok b k l x y (Err f) e h = h
 
 -- bits that are not limited
 pub unlimited : (b : Netlist) (x bits : Signal) → IsLimited b x bits bits

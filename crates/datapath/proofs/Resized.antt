@@ -4,11 +4,12 @@ use Rattle.std.proofs.lemmas.Bool.{cases_lt}
 use Rattle.std.proofs.lemmas.Nat.{pow-add, div-mul-add}
 use Rattle.dk_base.specs.declared.ty.Ty.{Ty}
 use Rattle.dk_base.specs.declared.ty.Ty.TheVariants.{Unsigned, Signed}
-use Rattle.dk_base.specs.Types.{width_of}
+use Rattle.dk_base.specs.Types.{IsType, width_of}
 use Rattle.dk_base.specs.Numbers.{code, number}
 use Rattle.dk_base.proofs.Codes.{half}
 use Rattle.dk_base.proofs.Resize.{narrow, wide_unsigned, wide_not_negative, wide_negative}
-use Rattle.datapath.specs.Nets.{IsPartOf, HasWidth, IsWord, bits_of}
+use Rattle.datapath.specs.Nets.{IsPartOf, HasPart, HasWidth, IsWidened, IsWord, bits_of}
+use Rattle.wiring.specs.Sizes.{IsWidth}
 use Rattle.wiring.specs.Rights.{repeated}
 use Rattle.datapath.proofs.Growth.{fits_later, part_on}
 use Rattle.datapath.specs.declared.operand.Signal.{Signal}
@@ -94,3 +95,15 @@ signs_word a b x r w m e h le more word =
           let f = fits_later a later x.bits w nets (width_at a x (Signed w) e h) (part_on a b later more grows) holds in
           word.value later nets grows holds ∙ sym (signed_bits w _ (m - w) some f) ∙ ap (λ n. code n (number (Signed w) (bits_of nets x.bits))) k;
     })
+
+-- what the calls need
+pub narrow_part : (b : Netlist) (x : Operand) (t : Ty) (m : ℕ) → x.ty ≡ t → IsOperand b x → IsWidth m → m ≤ width_of t → HasPart b (width_of t) x.bits 0 m
+narrow_part b x t m e h wide le =
+    let ok : IsType t = subst IsType e h.ty in
+    record { width = (ok.some, ok.most); some = wide.0; inside = omega (arith, le); x = width_at b x t e h }
+
+pub widened : (b : Netlist) (x : Operand) (t : Ty) (m : ℕ) → x.ty ≡ t → IsOperand b x → IsWidth m → width_of t < m → IsWidened b (m - width_of t) (width_of t) x.bits
+widened b x t m e h wide less =
+    let ok : IsType t = subst IsType e h.ty in
+    let most = wide.1 in
+    record { high = omega (arith, less); low = ok.some; most = omega (arith, less, most); x = width_at b x t e h }

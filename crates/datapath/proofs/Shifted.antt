@@ -10,9 +10,11 @@ use Rattle.dk_base.specs.Numbers.{code, number}
 use Rattle.dk_base.proofs.Codes.{number_low}
 use Rattle.dk_base.proofs.Ranges.{in_wider}
 use Rattle.dk_base.proofs.Scale.{code_scale, shifted_in, high_bits_of, narrowed_within, all_shifted_out, sign_is_left, shifted_by_none, times_one}
-use Rattle.datapath.specs.Nets.{IsPartOf, HasWidth, IsWord, InEachFit, bits_of}
+use Rattle.wiring.specs.Sizes.{IsWidth}
+use Rattle.datapath.proofs.Composed.{type_is}
+use Rattle.datapath.specs.Nets.{AreJoined, HasPart, IsPartOf, HasWidth, IsWord, InEachFit, bits_of}
 use Rattle.wiring.specs.Snapshot.{Snapshot}
-use Rattle.datapath.proofs.Growth.{fits_later, part_on}
+use Rattle.datapath.proofs.Growth.{fits_later, part_on, has_width_of}
 use Rattle.datapath.specs.declared.operand.Signal.{Signal}
 use Rattle.wiring.specs.Netlist.{Netlist}
 use Rattle.datapath.specs.declared.operand.Operand.{Operand}
@@ -115,3 +117,16 @@ unshifted_carries a x k e ox = record {
   operand = ox;
   value = λ later nets grows holds. sym (times_one (worth nets x)) ∙ sym (ap (λ n. worth nets x *ℤ pos (2 ^ n)) e);
 }
+
+-- what the calls need
+pub high_part : (b : Netlist) (x : Operand) (w k : ℕ) → w ≡ width_of x.ty → k < width_of x.ty → IsOperand b x → HasPart b w x.bits k (w - k)
+high_part b x w k e less h = record { width = type_is x.ty w e h.ty; some = omega (arith, e, less); inside = omega (arith, e, less); x = has_width_of e h.width }
+
+pub shift_width : (x : Operand) (k : ℕ) → 1 ≤ k → IsType (shifted_type x.ty k) → IsWidth k
+shift_width x k some ok = let most = ok.most in let wide = shifted_width x.ty k in (some, omega (arith, most, wide))
+
+pub shift_join : (b : Netlist) (x : Operand) (z : Signal) (w k : ℕ) → w ≡ width_of x.ty → 1 ≤ k → IsType (shifted_type x.ty k) → IsOperand b x → HasWidth b z k → AreJoined b w x.bits k z
+shift_join b x z w k e some ok h zeros =
+    let most = ok.most in
+    let wide = shifted_width x.ty k in
+    record { some = some; most = omega (arith, e, most, wide); x = has_width_of e h.width; y = zeros }

@@ -1,5 +1,5 @@
 -- A signed number divided by a power of two, rounded toward zero, as a shift after a sum.
-use Rattle.std.proofs.Common.{ℕ, suc, if◌then◌else◌, ◌≡◌, ◌+◌, ◌-◌, ◌*◌, ◌/◌, ◌%◌, ◌<◌, ◌≤◌, ◌^◌, pos, negsuc, ◌-ℤ◌, neg_ℤ, int_div, Bool, true, false, ap, refl, sym, subst, ◌∙◌, arith, inl, inr}
+use Rattle.std.proofs.Common.{ℕ, ℤ, List, suc, if◌then◌else◌, ◌≡◌, ◌+◌, ◌-◌, ◌*◌, ◌/◌, ◌%◌, ◌<◌, ◌≤◌, ◌^◌, pos, negsuc, ◌-ℤ◌, neg_ℤ, int_div, Bool, true, false, ap, refl, sym, subst, ◌∙◌, arith, inl, inr}
 use Rattle.std.specs.Int.{int_div_euclid}
 use Rattle.std.proofs.Math.Nat.{div-eq-sub-div, div-eq_of_lt}
 use Rattle.std.proofs.Math.Pow.{pow_mono}
@@ -17,7 +17,7 @@ use Rattle.wiring.specs.Snapshot.{Snapshot}
 use Rattle.datapath.specs.declared.operand.Signal.{Signal}
 use Rattle.datapath.specs.declared.operand.Operand.{Operand}
 use Rattle.datapath.specs.Nets.{IsPartOf, IsWord, HasWidth, bits_of}
-use Rattle.datapath.specs.Operands.{IsOperand, Carries, worth}
+use Rattle.datapath.specs.Operands.{IsOperand, Carries, CarriesOver, worth}
 use Rattle.datapath.specs.Levels.{is_power, quotient_levels}
 use Rattle.datapath.proofs.Growth.{fits_later, part_on}
 use Rattle.datapath.proofs.Resized.{copies_zero, copies_one}
@@ -132,3 +132,24 @@ toward_carries a b c d f g x q sign ones missing bits n k e less ox ab bc cd df 
     ap (λ v. int_div_euclid (number (Signed n) v) (pos (2 ^ k))) (are_bits.value later nets grows holds ∙ ap (λ m. (bits_of nets x.bits + m) % 2 ^ n) low) ∙
     toward_bits n k (bits_of nets x.bits) o.ty.some less fit ∙
     sym (ap (λ t. int_div (number t (bits_of nets x.bits)) (pos (2 ^ k))) e)) h
+
+pub full_level : (by : ℕ) → is_power by ≡ false → 5 ≤ quotient_levels by
+full_level by e =
+    let levels : Bool → ℕ = λ t. if t then 1 else 5 in
+    let all : quotient_levels by ≡ 5 = ap levels e in
+    omega (arith, all)
+
+undivided : (v : ℤ) → int_div v (pos 1) ≡ v
+undivided (pos n) = ap pos (let e : n / 1 ≡ n = grind arith in e)
+undivided (negsuc n) = ap (λ m. neg_ℤ (pos m)) (let e : suc n / 1 ≡ suc n = grind arith in e)
+
+pub near_carries : (a : Netlist) (x : Operand) (k : ℕ) → k ≡ 0 → IsOperand a x → Carries a x x.ty (λ nets. int_div (worth nets x) (pos (2 ^ k)))
+near_carries a x k e h = record {
+  is = refl;
+  operand = h;
+  value = λ m s more is. sym (ap (λ n. int_div (worth s x) (pos (2 ^ n))) e ∙ undivided (worth s x));
+}
+
+-- a divisor under another name
+pub divided_by : (x : Operand) (by n : ℕ) {a d : Netlist} {i : ℕ} {xs : List Signal} {t : Ty} {r : Operand} → by ≡ n → CarriesOver a d i xs t (λ nets. int_div (worth nets x) (pos n)) r → CarriesOver a d i xs t (λ nets. int_div (worth nets x) (pos by)) r
+divided_by x by n {a} {d} {i} {xs} {t} {r} e h = subst (λ k. CarriesOver a d i xs t (λ nets. int_div (worth nets x) (pos k)) r) (sym e) h

@@ -5,6 +5,7 @@ use Rattle.datapath.specs.declared.operand.Signal.{Signal}
 use Rattle.datapath.specs.declared.operand.Signal.TheVariants as signal
 use Rattle.wiring.specs.declared.netlist.Net.{Net}
 use Rattle.wiring.specs.Netlist.{Netlist}
+use Rattle.wiring.specs.Snapshot.{Snapshot}
 use Rattle.wiring.specs.Rights.{repeated}
 use Rattle.datapath.specs.Nets.{IsPartOf, HasWidth, IsWord, bits_of}
 use Rattle.datapath.proofs.Growth.{fits_later, part_on}
@@ -40,4 +41,11 @@ signs_of b c d x s ss r high low g h sign signs word = record {
   value = λ later nets grows is.
       let k = part_on c d later h grows in
       word.value later nets grows is ∙ ap (λ v. v * 2 ^ low + bits_of nets x) (signs.value later nets k is ∙ ap (repeated high 1) (sign.value later nets (part_on b c later g k) is));
+}
+
+-- zeros above
+pub zeros_above : (b : Netlist) (z r x : Signal) (high low : ℕ) → ((s : Snapshot) → bits_of s z ≡ 0) → IsWord b r (high + low) (λ s. bits_of s z * 2 ^ low + bits_of s x) → IsWord b r (high + low) (λ s. bits_of s x)
+zeros_above b z r x high low none word = record {
+  width = word.width;
+  value = λ m s more is. word.value m s more is ∙ ap (λ n. n * 2 ^ low + bits_of s x) (none s) ∙ (let e : 0 * 2 ^ low + bits_of s x ≡ bits_of s x = grind arith in e);
 }

@@ -4,6 +4,7 @@ use Rattle.dk_base.specs.declared.ty.Ty.{Ty}
 use Rattle.dk_base.specs.declared.ty.Ty.TheVariants.{Unsigned}
 use Rattle.dk_base.specs.declared.operator.Unary.{Unary}
 use Rattle.dk_base.specs.declared.operator.Unary.TheVariants.{Negate, Not, Abs}
+use Rattle.dk_base.specs.declared.operator.Binary.{Binary}
 use Rattle.dk_base.specs.declared.operator.Scaling.{Scaling}
 use Rattle.dk_base.specs.declared.operator.Scaling.TheVariants.{Divide, ShiftLeft, ShiftRight}
 use Rattle.dk_base.specs.Types.{IsType, IsIn, width_of, common_type, negation_type, magnitude_type, shifted_type}
@@ -19,6 +20,7 @@ use Rattle.net_build.specs.Depth.{IsWithin}
 use Rattle.pointwise_ir.specs.declared.expr.Edge.{Edge}
 use Rattle.pointwise_ir.specs.declared.expr.Edge.TheVariants.{Zero, Clamp}
 use Rattle.pointwise_ir.specs.Trees.{Tree, constant, read, shifted, unary, binary, select, convert, scale}
+use Rattle.datapath.specs.declared.operand.Operand.{Operand}
 use Rattle.datapath.specs.declared.operand.Signal.{Signal}
 use Rattle.datapath.specs.declared.operand.Signal.TheVariants as signal
 use Rattle.datapath.specs.Nets.{HasWidth, IsPartOf, IsMade}
@@ -45,6 +47,37 @@ abbrev pub TakesNumber : Scaling → ℕ → Type 0
 TakesNumber Divide k = 0 < k
 TakesNumber ShiftLeft k = k ≤ 63
 TakesNumber ShiftRight k = k ≤ 63
+
+-- Operands that a binary operator takes.
+pub record AreArguments (b : Netlist) (operator : Binary) (p q : Operand) : Type 0 where
+  -- the first is an operand
+  pub x : IsOperand b p
+  -- the second is an operand
+  pub y : IsOperand b q
+  -- the operator takes their types
+  pub takes : IsTrue (are_operands operator p.ty q.ty)
+  -- a type that has the numbers of both
+  pub common : IsType (common_type p.ty q.ty)
+  -- the result has a type
+  pub ty : IsType (binary_result operator p.ty q.ty)
+
+-- An operand that a unary operator takes.
+pub record IsArgument (b : Netlist) (operator : Unary) (p : Operand) : Type 0 where
+  -- it is an operand
+  pub x : IsOperand b p
+  -- the operator takes its type
+  pub takes : TakesOperand operator p.ty
+  -- the result has a type
+  pub ty : IsType (unary_result operator p.ty)
+
+-- An operand and a number that an operator with a written number takes.
+pub record IsScaled (b : Netlist) (operator : Scaling) (p : Operand) (k : ℕ) : Type 0 where
+  -- it is an operand
+  pub x : IsOperand b p
+  -- the operator takes the number
+  pub by : TakesNumber operator k
+  -- the result has a type
+  pub ty : IsType (scaling_result operator p.ty k)
 
 -- one bit denotes a shifted part, none where it is clamped
 abbrev pub edge_bits : Edge → ℕ

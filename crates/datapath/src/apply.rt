@@ -1,14 +1,13 @@
 // The net of an operator.
 
-ghost use Rattle.std.specs.Prelude.{◌≡◌, IsTrue, Bool, pos, nat_eq, if◌then◌else◌, IfOk, ◌∷◌, []};
+ghost use Rattle.std.specs.Prelude.{pos, nat_eq, if◌then◌else◌, ◌∷◌, []};
 ghost use Rattle.wiring.specs.Snapshot.{net_value};
-ghost use Rattle.dk_base.specs.Types.{IsType, common_type};
-ghost use Rattle.dk_base.specs.Operators.{unary_value, are_operands, binary_result, binary_value, scaling_value, conversion_value};
+ghost use Rattle.dk_base.specs.Operators.{unary_value, binary_result, binary_value, scaling_value, conversion_value};
 ghost use Rattle.datapath.specs.declared.operand.Signal.TheVariants as signal;
-ghost use Rattle.datapath.specs.Nets.{Folds, Grows, HasWidth, IsMadeOver};
-ghost use Rattle.datapath.specs.Operands.{IsOperand, Carries, worth};
+ghost use Rattle.datapath.specs.Nets.{HasWidth};
+ghost use Rattle.datapath.specs.Operands.{HasOperand, IsOperand, MakesOperand, worth};
 ghost use Rattle.datapath.specs.Levels.{unary_levels, binary_levels, scaling_levels, conversion_levels};
-ghost use Rattle.datapath.specs.Expressions.{unary_result, scaling_result, TakesOperand, TakesNumber};
+ghost use Rattle.datapath.specs.Expressions.{AreArguments, IsArgument, IsScaled, unary_result, scaling_result};
 
 use crate::arithmetic::{difference, negation, product, sum};
 use crate::bits::{bit_complement, conjunction, disjunction, exclusive_or};
@@ -32,15 +31,9 @@ pub fn binary(
     x: Operand,
     y: Operand,
 ) -> Result<Operand, OutOfMemory>
-    requires x { IsOperand b.old x }
-    requires y { IsOperand b.old y }
-    requires takes { IsTrue (are_operands operator x.ty y.ty) }
-    requires common { IsType (common_type x.ty y.ty) }
-    requires ty { IsType (binary_result operator x.ty y.ty) }
-    ensures grows { Grows b.old b.new }
-    ensures value { IfOk result (λ r. Carries b.new r (binary_result operator x.ty y.ty) (λ s. binary_value operator (worth s x) (worth s y))) }
-    ensures made { IfOk result (λ r. IsMadeOver b.new (binary_levels operator) r.bits (x.bits ∷ (y.bits ∷ []))) }
-    ensures folds { IfOk result (λ r. Folds b.old b.new r.bits (x.bits ∷ (y.bits ∷ []))) }
+    requires { AreArguments b.old operator x y }
+    ensures { MakesOperand b.old b.new result (binary_levels operator) (x.bits ∷ (y.bits ∷ []))
+        (binary_result operator x.ty y.ty) (λ s. binary_value operator (worth s x) (worth s y)) }
 {
     match operator {
         Binary::Add => sum(b, x, y),
@@ -62,13 +55,9 @@ pub fn binary(
 
 /// An operator of one operand.
 pub fn unary(b: &mut Builder, operator: Unary, x: Operand) -> Result<Operand, OutOfMemory>
-    requires x { IsOperand b.old x }
-    requires takes { TakesOperand operator x.ty }
-    requires ty { IsType (unary_result operator x.ty) }
-    ensures grows { Grows b.old b.new }
-    ensures value { IfOk result (λ r. Carries b.new r (unary_result operator x.ty) (λ s. unary_value operator (worth s x))) }
-    ensures made { IfOk result (λ r. IsMadeOver b.new (unary_levels operator) r.bits (x.bits ∷ [])) }
-    ensures folds { IfOk result (λ r. Folds b.old b.new r.bits (x.bits ∷ [])) }
+    requires { IsArgument b.old operator x }
+    ensures { MakesOperand b.old b.new result (unary_levels operator) (x.bits ∷ []) (unary_result operator x.ty)
+        (λ s. unary_value operator (worth s x)) }
 {
     match operator {
         Unary::Negate => negation(b, x),
@@ -84,13 +73,9 @@ pub fn scaled(
     x: Operand,
     by: u64,
 ) -> Result<Operand, OutOfMemory>
-    requires x { IsOperand b.old x }
-    requires by { TakesNumber operator by }
-    requires ty { IsType (scaling_result operator x.ty by) }
-    ensures grows { Grows b.old b.new }
-    ensures value { IfOk result (λ r. Carries b.new r (scaling_result operator x.ty by) (λ s. scaling_value operator (worth s x) by)) }
-    ensures made { IfOk result (λ r. IsMadeOver b.new (scaling_levels operator by) r.bits (x.bits ∷ [])) }
-    ensures folds { IfOk result (λ r. Folds b.old b.new r.bits (x.bits ∷ [])) }
+    requires { IsScaled b.old operator x by }
+    ensures { MakesOperand b.old b.new result (scaling_levels operator by) (x.bits ∷ [])
+        (scaling_result operator x.ty by) (λ s. scaling_value operator (worth s x) by) }
 {
     match operator {
         Scaling::Divide => quotient(b, x, by),
@@ -106,12 +91,9 @@ pub fn converted(
     x: Operand,
     ty: Ty,
 ) -> Result<Operand, OutOfMemory>
-    requires x { IsOperand b.old x }
-    requires ty { IsType ty }
-    ensures grows { Grows b.old b.new }
-    ensures value { IfOk result (λ r. Carries b.new r ty (λ s. conversion_value how ty (worth s x))) }
-    ensures made { IfOk result (λ r. IsMadeOver b.new (conversion_levels how) r.bits (x.bits ∷ [])) }
-    ensures folds { IfOk result (λ r. Folds b.old b.new r.bits (x.bits ∷ [])) }
+    requires { HasOperand b.old x ty }
+    ensures { MakesOperand b.old b.new result (conversion_levels how) (x.bits ∷ []) ty
+        (λ s. conversion_value how ty (worth s x)) }
 {
     match how {
         Conversion::Cast => cast(b, x, ty),
@@ -124,9 +106,8 @@ pub fn converted(
 pub fn gated(b: &mut Builder, bit: Net, x: Operand) -> Result<Operand, OutOfMemory>
     requires bit { HasWidth b.old (signal.Net bit) 1 }
     requires x { IsOperand b.old x }
-    ensures grows { Grows b.old b.new }
-    ensures value { IfOk result (λ r. Carries b.new r x.ty (λ s. if nat_eq (net_value s bit) 1 then worth s x else pos 0)) }
-    ensures made { IfOk result (λ r. IsMadeOver b.new 1 r.bits ((signal.Net bit) ∷ (x.bits ∷ []))) }
+    ensures { MakesOperand b.old b.new result 1 (signal.Net bit ∷ (x.bits ∷ [])) x.ty
+        (λ s. if nat_eq (net_value s bit) 1 then worth s x else pos 0) }
 {
     let width = x.ty.width();
     let nothing = constant(width, 0);

@@ -1,12 +1,9 @@
 // Constants, and what operators make of them.
 
-ghost use Rattle.std.specs.Prelude.{◌≡◌, ◌+◌, ◌-◌, ◌*◌, ◌/◌, ◌%◌, ◌^◌, ◌<◌, ◌≤◌, [], ◌∷◌, IfSome, IsSome};
-ghost use Rattle.wiring.specs.Netlist.{Netlist};
+ghost use Rattle.std.specs.Prelude.{◌≡◌, ◌+◌, ◌-◌, ◌*◌, ◌/◌, ◌%◌, ◌^◌, ◌<◌, [], ◌∷◌, Some, MatchOption};
 ghost use Rattle.wiring.specs.Rights.{repeated, operator_width, operator_value};
-ghost use Rattle.wiring.specs.Rules.{DividesByDivisor};
 ghost use Rattle.wiring.specs.Sizes.{IsWidth};
-ghost use Rattle.datapath.specs.declared.operand.Signal.TheVariants as signal;
-ghost use Rattle.datapath.specs.Nets.{HasWidth, IsWord, IsMadeOver, IsKnown, AreKnown, atom_of, bits_of, known_value};
+ghost use Rattle.datapath.specs.Nets.{AreJoined, AreOperandsOf, HasPart, HasWidth, IsConstantOf, IsFolded, IsKnown, IsSized, bits_of, known_value};
 
 use crate::ends::all_ones;
 use crate::operand::Signal;
@@ -17,10 +14,7 @@ use wiring::{Operator, join_value, low_bits, operator_value};
 pub(crate) fn constant(width: u8, value: u64) -> Signal
     requires width { IsWidth width }
     requires fits { value < 2 ^ width }
-    ensures is { result ≡ signal.Constant width value }
-    ensures width { (b : Netlist) → HasWidth b result width }
-    ensures made { (b : Netlist) → IsMadeOver b 0 result [] }
-    ensures known { IsKnown result }
+    ensures { IsConstantOf width value result }
 {
     Signal::Constant(width, value)
 }
@@ -38,18 +32,14 @@ fn half(width: u8) -> u64
 // The constant of `width` bits of which only the highest bit is 1.
 pub(crate) fn top_bit(width: u8) -> Signal
     requires { IsWidth width }
-    ensures is { result ≡ signal.Constant width (2 ^ (width - 1)) }
-    ensures width { (b : Netlist) → HasWidth b result width }
-    ensures made { (b : Netlist) → IsMadeOver b 0 result [] }
-    ensures known { IsKnown result }
+    ensures { IsConstantOf width (2 ^ (width - 1)) result }
 {
     constant(width, half(width))
 }
 
 // The value of a constant, or None of a net.
 pub(crate) fn known(x: Signal) -> Option<u64>
-    ensures value { result ≡ known_value x }
-    ensures known { IsKnown x → IsSome result }
+    ensures { MatchOption result (IsKnown x → ⊥) (λ v. known_value x ≡ Some v) }
 {
     match x {
         Signal::Net(_) => None,
@@ -88,14 +78,8 @@ pub(crate) fn folded(
     x: Signal,
     y: Signal,
 ) -> Option<Signal>
-    requires width { IsWidth (operator_width operator width) }
-    requires x { HasWidth b.now x width }
-    requires y { HasWidth b.now y width }
-    requires divisor { DividesByDivisor operator (atom_of y) }
-    ensures word { IfSome result (λ r. IsWord b.now r (operator_width operator width) (λ s. operator_value operator width (bits_of s x) (bits_of s y))) }
-    ensures made { IfSome result (λ r. IsMadeOver b.now 0 r []) }
-    ensures known { IfSome result IsKnown }
-    ensures complete { AreKnown (x ∷ (y ∷ [])) → IsSome result }
+    requires { AreOperandsOf b.now operator width x y }
+    ensures { IsFolded b.now result (x ∷ (y ∷ [])) (operator_width operator width) (λ s. operator_value operator width (bits_of s x) (bits_of s y)) }
 {
     let left = known(x)?;
     let right = known(y)?;
@@ -105,14 +89,8 @@ pub(crate) fn folded(
 
 // A constant above another, or None where one is a net.
 pub(crate) fn folded_join(b: &Builder, high: u8, x: Signal, low: u8, y: Signal) -> Option<Signal>
-    requires some { 1 ≤ low }
-    requires most { high + low ≤ 64 }
-    requires x { HasWidth b.now x high }
-    requires y { HasWidth b.now y low }
-    ensures word { IfSome result (λ r. IsWord b.now r (high + low) (λ s. bits_of s x * 2 ^ low + bits_of s y)) }
-    ensures made { IfSome result (λ r. IsMadeOver b.now 0 r []) }
-    ensures known { IfSome result IsKnown }
-    ensures complete { AreKnown (x ∷ (y ∷ [])) → IsSome result }
+    requires { AreJoined b.now high x low y }
+    ensures { IsFolded b.now result (x ∷ (y ∷ [])) (high + low) (λ s. bits_of s x * 2 ^ low + bits_of s y) }
 {
     let left = known(x)?;
     let right = known(y)?;
@@ -124,10 +102,7 @@ pub(crate) fn folded_join(b: &Builder, high: u8, x: Signal, low: u8, y: Signal) 
 pub(crate) fn folded_repeat(b: &Builder, count: u8, x: Signal) -> Option<Signal>
     requires width { IsWidth count }
     requires x { HasWidth b.now x 1 }
-    ensures word { IfSome result (λ r. IsWord b.now r count (λ s. repeated count 1 (bits_of s x))) }
-    ensures made { IfSome result (λ r. IsMadeOver b.now 0 r []) }
-    ensures known { IfSome result IsKnown }
-    ensures complete { AreKnown (x ∷ []) → IsSome result }
+    ensures { IsFolded b.now result (x ∷ []) count (λ s. repeated count 1 (bits_of s x)) }
 {
     let bit = known(x)?;
     let value = copies(count, bit);
@@ -136,12 +111,8 @@ pub(crate) fn folded_repeat(b: &Builder, count: u8, x: Signal) -> Option<Signal>
 
 // The other bits of a constant, or None of a net.
 pub(crate) fn folded_not(b: &Builder, width: u8, x: Signal) -> Option<Signal>
-    requires width { IsWidth width }
-    requires x { HasWidth b.now x width }
-    ensures word { IfSome result (λ r. IsWord b.now r width (λ s. 2 ^ width - 1 - bits_of s x)) }
-    ensures made { IfSome result (λ r. IsMadeOver b.now 0 r []) }
-    ensures known { IfSome result IsKnown }
-    ensures complete { AreKnown (x ∷ []) → IsSome result }
+    requires { IsSized b.now width x }
+    ensures { IsFolded b.now result (x ∷ []) width (λ s. 2 ^ width - 1 - bits_of s x) }
 {
     let bits = known(x)?;
     let value = all_ones(width) - bits;
@@ -150,14 +121,8 @@ pub(crate) fn folded_not(b: &Builder, width: u8, x: Signal) -> Option<Signal>
 
 // The `count` bits of a constant from bit `low` on, or None of a net.
 pub(crate) fn folded_part(b: &Builder, width: u8, x: Signal, low: u8, count: u8) -> Option<Signal>
-    requires width { IsWidth width }
-    requires some { 1 ≤ count }
-    requires inside { low + count ≤ width }
-    requires x { HasWidth b.now x width }
-    ensures word { IfSome result (λ r. IsWord b.now r count (λ s. bits_of s x / 2 ^ low % 2 ^ count)) }
-    ensures made { IfSome result (λ r. IsMadeOver b.now 0 r []) }
-    ensures known { IfSome result IsKnown }
-    ensures complete { AreKnown (x ∷ []) → IsSome result }
+    requires { HasPart b.now width x low count }
+    ensures { IsFolded b.now result (x ∷ []) count (λ s. bits_of s x / 2 ^ low % 2 ^ count) }
 {
     let bits = known(x)?;
     let value = low_bits((bits >> low) as u128, count);

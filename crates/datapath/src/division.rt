@@ -1,35 +1,30 @@
 // Absolute values, and quotients rounded toward zero.
 
-ghost use Rattle.std.specs.Prelude.{◌≡◌, ◌+◌, ◌-◌, ◌/◌, ◌%◌, ◌^◌, ◌<◌, ◌≤◌, pos, int_div, unsigned_abs, nat_eq, if◌then◌else◌, false, IfOk, IfSome, IfNone, ◌∷◌, []};
-ghost use Rattle.dk_base.specs.Types.{IsType, width_of, magnitude_type};
-ghost use Rattle.dk_base.specs.Numbers.{number};
+ghost use Rattle.std.specs.Prelude.{◌≡◌, ◌+◌, ◌-◌, ◌%◌, ◌^◌, ◌<◌, ◌≤◌, pos, int_div, unsigned_abs, nat_eq, if◌then◌else◌, false, MatchOption, ◌∷◌, []};
+ghost use Rattle.dk_base.specs.Types.{magnitude_type};
 ghost use Rattle.dk_base.specs.declared.ty.Ty.TheVariants.{Signed};
-ghost use Rattle.datapath.specs.Nets.{Folds, Grows, HasWidth, IsWord, bits_of, IsMadeOver};
-ghost use Rattle.wiring.specs.Sizes.{IsWidth};
-ghost use Rattle.datapath.specs.Operands.{IsOperand, Carries, worth};
+ghost use Rattle.datapath.specs.Nets.{AreChosen, MakesWord, bits_of};
+ghost use Rattle.datapath.specs.Operands.{IsOfType, IsOperand, MakesOperand, worth};
 ghost use Rattle.datapath.specs.Levels.{is_power, quotient_levels};
 
 use crate::constants::constant;
 use crate::ends::greatest;
 use crate::operand::{Operand, Signal};
 use crate::shifts::shift_right;
-use crate::words::{add, choose, divide, part, repeat, subtract, with_zeros};
+use crate::words::{choose, operated, part, repeat, with_zeros};
 use dk_base::{OutOfMemory, Ty};
 use net_build::Builder;
+use wiring::Operator;
 
 // An atom of `width` bits, or what is missing to 2 to the `width` where the sign is 1.
 #[tactic(auto, using(crate::proofs::Carried::later))]
 fn turned(b: &mut Builder, width: u8, sign: Signal, x: Signal) -> Result<Signal, OutOfMemory>
-    requires width { IsWidth width }
-    requires sign { HasWidth b.old sign 1 }
-    requires x { HasWidth b.old x width }
-    ensures grows { Grows b.old b.new }
-    ensures word { IfOk result (λ r. IsWord b.new r width
-        (λ nets. if nat_eq (bits_of nets sign) 1 then (0 + 2 ^ width - bits_of nets x) % 2 ^ width else bits_of nets x)) }
-    ensures made { IfOk result (λ r. IsMadeOver b.new 2 r (sign ∷ (x ∷ []))) }
-    ensures folds { IfOk result (λ r. Folds b.old b.new r (sign ∷ (x ∷ []))) }
+    requires { AreChosen b.old width sign x x }
+    ensures { MakesWord b.old b.new result 2 (sign ∷ (x ∷ [])) width
+        (λ nets. if nat_eq (bits_of nets sign) 1 then (0 + 2 ^ width - bits_of nets x) % 2 ^ width
+        else bits_of nets x) }
 {
-    let negative = subtract(b, width, constant(width, 0), x)?;
+    let negative = operated(b, Operator::Subtract, width, constant(width, 0), x)?;
     let atom = choose(b, width, sign, negative, x)?;
     Ok(atom)
 }
@@ -37,12 +32,9 @@ fn turned(b: &mut Builder, width: u8, sign: Signal, x: Signal) -> Result<Signal,
 // The absolute value of a signed operand.
 #[tactic(auto, using(crate::proofs::Carried::later))]
 fn signed_magnitude(b: &mut Builder, width: u8, x: Operand) -> Result<Operand, OutOfMemory>
-    requires x { IsOperand b.old x }
-    requires ty { x.ty ≡ Signed width }
-    ensures grows { Grows b.old b.new }
-    ensures value { IfOk result (λ r. Carries b.new r (Ty.Unsigned width) (λ nets. pos (unsigned_abs (worth nets x)))) }
-    ensures made { IfOk result (λ r. IsMadeOver b.new 2 r.bits (x.bits ∷ [])) }
-    ensures folds { IfOk result (λ r. Folds b.old b.new r.bits (x.bits ∷ [])) }
+    requires { IsOfType b.old x (Signed width) }
+    ensures { MakesOperand b.old b.new result 2 (x.bits ∷ []) (Ty.Unsigned width)
+        (λ nets. pos (unsigned_abs (worth nets x))) }
 {
     let sign = part(b, width, x.bits, width - 1, 1)?;
     let atom = turned(b, width, sign, x.bits)?;
@@ -60,13 +52,10 @@ fn unsigned_quotient(
     x: Operand,
     by: u64,
 ) -> Result<Operand, OutOfMemory>
-    requires x { IsOperand b.old x }
-    requires ty { x.ty ≡ Ty.Unsigned width }
+    requires operand { IsOfType b.old x (Ty.Unsigned width) }
     requires by { 0 < by }
-    ensures grows { Grows b.old b.new }
-    ensures value { IfOk result (λ r. Carries b.new r (Ty.Unsigned width) (λ nets. int_div (worth nets x) (pos by))) }
-    ensures made { IfOk result (λ r. IsMadeOver b.new 1 r.bits (x.bits ∷ [])) }
-    ensures folds { IfOk result (λ r. Folds b.old b.new r.bits (x.bits ∷ [])) }
+    ensures { MakesOperand b.old b.new result 1 (x.bits ∷ []) (Ty.Unsigned width)
+        (λ nets. int_div (worth nets x) (pos by)) }
 {
     let ty = Ty::Unsigned(width);
     if by > greatest(ty) {
@@ -75,14 +64,13 @@ fn unsigned_quotient(
             ty,
         });
     }
-    let atom = divide(b, width, x.bits, constant(width, by))?;
+    let atom = operated(b, Operator::Divide, width, x.bits, constant(width, by))?;
     Ok(Operand { bits: atom, ty })
 }
 
 // The power of two that a number is, if it is one.
 fn power_of(by: u64) -> Option<u8>
-    ensures some { IfSome result (λ k. by ≡ 2 ^ k) }
-    ensures none { IfNone result (is_power by ≡ false) }
+    ensures { MatchOption result (is_power by ≡ false) (λ k. by ≡ 2 ^ k) }
 {
     let k = by.trailing_zeros();
     if k < 64 && 1u64 << k == by {
@@ -99,19 +87,15 @@ fn shifted_toward_zero(
     x: Operand,
     by: u8,
 ) -> Result<Operand, OutOfMemory>
-    requires x { IsOperand b.old x }
-    requires ty { x.ty ≡ Signed width }
-    requires some { 1 ≤ by }
-    requires by { by < width }
-    ensures grows { Grows b.old b.new }
-    ensures value { IfOk result (λ r. Carries b.new r x.ty (λ nets. int_div (worth nets x) (pos (2 ^ by)))) }
-    ensures made { IfOk result (λ r. IsMadeOver b.new 1 r.bits (x.bits ∷ [])) }
-    ensures folds { IfOk result (λ r. Folds b.old b.new r.bits (x.bits ∷ [])) }
+    requires operand { IsOfType b.old x (Signed width) }
+    requires by { (1 ≤ by) × (by < width) }
+    ensures { MakesOperand b.old b.new result 1 (x.bits ∷ []) x.ty
+        (λ nets. int_div (worth nets x) (pos (2 ^ by))) }
 {
     let sign = part(b, width, x.bits, width - 1, 1)?;
     let ones = repeat(b, by, sign)?;
     let missing = with_zeros(b, width - by, by, ones)?;
-    let bits = add(b, width, x.bits, missing)?;
+    let bits = operated(b, Operator::Add, width, x.bits, missing)?;
     let raised = Operand { bits, ty: x.ty };
     let quotient = shift_right(b, raised, by)?;
     Ok(quotient)
@@ -120,13 +104,10 @@ fn shifted_toward_zero(
 // The quotient of a signed operand by any number: that of the absolute values, with the sign.
 #[tactic(auto, using(crate::proofs::Carried::later))]
 fn turned_quotient(b: &mut Builder, width: u8, x: Operand, by: u64) -> Result<Operand, OutOfMemory>
-    requires x { IsOperand b.old x }
-    requires ty { x.ty ≡ Signed width }
+    requires operand { IsOfType b.old x (Signed width) }
     requires by { 0 < by }
-    ensures grows { Grows b.old b.new }
-    ensures value { IfOk result (λ r. Carries b.new r x.ty (λ nets. int_div (worth nets x) (pos by))) }
-    ensures made { IfOk result (λ r. IsMadeOver b.new 5 r.bits (x.bits ∷ [])) }
-    ensures folds { IfOk result (λ r. Folds b.old b.new r.bits (x.bits ∷ [])) }
+    ensures { MakesOperand b.old b.new result 5 (x.bits ∷ []) x.ty
+        (λ nets. int_div (worth nets x) (pos by)) }
 {
     let size = signed_magnitude(b, width, x)?;
     let q = unsigned_quotient(b, width, size, by)?;
@@ -141,12 +122,9 @@ fn turned_quotient(b: &mut Builder, width: u8, x: Operand, by: u64) -> Result<Op
 // The quotient of a signed operand by a power of two: 0 if no number of its width is so far from 0.
 #[tactic(auto, using(crate::proofs::Carried::later))]
 fn power_quotient(b: &mut Builder, width: u8, x: Operand, by: u8) -> Result<Operand, OutOfMemory>
-    requires x { IsOperand b.old x }
-    requires ty { x.ty ≡ Signed width }
-    ensures grows { Grows b.old b.new }
-    ensures value { IfOk result (λ r. Carries b.new r x.ty (λ nets. int_div (worth nets x) (pos (2 ^ by)))) }
-    ensures made { IfOk result (λ r. IsMadeOver b.new 1 r.bits (x.bits ∷ [])) }
-    ensures folds { IfOk result (λ r. Folds b.old b.new r.bits (x.bits ∷ [])) }
+    requires { IsOfType b.old x (Signed width) }
+    ensures { MakesOperand b.old b.new result 1 (x.bits ∷ []) x.ty
+        (λ nets. int_div (worth nets x) (pos (2 ^ by))) }
 {
     if by == 0 {
         return Ok(x);
@@ -164,13 +142,10 @@ fn power_quotient(b: &mut Builder, width: u8, x: Operand, by: u8) -> Result<Oper
 // The quotient of a signed operand.
 #[tactic(auto, using(crate::proofs::Carried::later))]
 fn signed_quotient(b: &mut Builder, width: u8, x: Operand, by: u64) -> Result<Operand, OutOfMemory>
-    requires x { IsOperand b.old x }
-    requires ty { x.ty ≡ Signed width }
+    requires operand { IsOfType b.old x (Signed width) }
     requires by { 0 < by }
-    ensures grows { Grows b.old b.new }
-    ensures value { IfOk result (λ r. Carries b.new r x.ty (λ nets. int_div (worth nets x) (pos by))) }
-    ensures made { IfOk result (λ r. IsMadeOver b.new (quotient_levels by) r.bits (x.bits ∷ [])) }
-    ensures folds { IfOk result (λ r. Folds b.old b.new r.bits (x.bits ∷ [])) }
+    ensures { MakesOperand b.old b.new result (quotient_levels by) (x.bits ∷ []) x.ty
+        (λ nets. int_div (worth nets x) (pos by)) }
 {
     match power_of(by) {
         Some(k) => {
@@ -189,10 +164,8 @@ fn signed_quotient(b: &mut Builder, width: u8, x: Operand, by: u64) -> Result<Op
 pub fn quotient(b: &mut Builder, x: Operand, by: u64) -> Result<Operand, OutOfMemory>
     requires x { IsOperand b.old x }
     requires by { 0 < by }
-    ensures grows { Grows b.old b.new }
-    ensures value { IfOk result (λ r. Carries b.new r x.ty (λ nets. int_div (worth nets x) (pos by))) }
-    ensures made { IfOk result (λ r. IsMadeOver b.new (quotient_levels by) r.bits (x.bits ∷ [])) }
-    ensures folds { IfOk result (λ r. Folds b.old b.new r.bits (x.bits ∷ [])) }
+    ensures { MakesOperand b.old b.new result (quotient_levels by) (x.bits ∷ []) x.ty
+        (λ nets. int_div (worth nets x) (pos by)) }
 {
     match x.ty {
         Ty::Unsigned(width) => {
@@ -209,11 +182,9 @@ pub fn quotient(b: &mut Builder, x: Operand, by: u64) -> Result<Operand, OutOfMe
 /// An operand's absolute value.
 #[tactic(auto, using(crate::proofs::Carried::later))]
 pub fn magnitude(b: &mut Builder, x: Operand) -> Result<Operand, OutOfMemory>
-    requires x { IsOperand b.old x }
-    ensures grows { Grows b.old b.new }
-    ensures value { IfOk result (λ r. Carries b.new r (magnitude_type x.ty) (λ nets. pos (unsigned_abs (worth nets x)))) }
-    ensures made { IfOk result (λ r. IsMadeOver b.new 2 r.bits (x.bits ∷ [])) }
-    ensures folds { IfOk result (λ r. Folds b.old b.new r.bits (x.bits ∷ [])) }
+    requires { IsOperand b.old x }
+    ensures { MakesOperand b.old b.new result 2 (x.bits ∷ []) (magnitude_type x.ty)
+        (λ nets. pos (unsigned_abs (worth nets x))) }
 {
     match x.ty {
         Ty::Unsigned(_) => Ok(x),

@@ -1,26 +1,22 @@
 // The bits of an operand's number at any width.
 
-ghost use Rattle.std.specs.Prelude.{◌≡◌, ◌+◌, ◌≤◌, ◌<◌, ◌-◌, ◌*◌, ◌/◌, ◌%◌, ◌^◌, IfOk, ◌∷◌, []};
-ghost use Rattle.dk_base.specs.Types.{IsType, width_of};
+ghost use Rattle.std.specs.Prelude.{◌∷◌, []};
 ghost use Rattle.dk_base.specs.Numbers.{code};
-ghost use Rattle.datapath.specs.Nets.{Folds, Grows, HasWidth, IsWord, bits_of, IsMadeOver};
-ghost use Rattle.wiring.specs.Rights.{repeated};
-ghost use Rattle.wiring.specs.Sizes.{IsWidth};
-ghost use Rattle.datapath.specs.Operands.{IsOperand, worth};
+ghost use Rattle.wiring.specs.Rights.{operator_width, operator_value};
+ghost use Rattle.datapath.specs.Nets.{MakesWord};
+ghost use Rattle.datapath.specs.Operands.{AreCombined, IsResized, worth};
 
 use crate::operand::{Operand, Signal};
-use crate::words::{part, with_signs, with_zeros};
+use crate::words::{operated, part, with_signs, with_zeros};
 use dk_base::{OutOfMemory, Ty};
 use net_build::Builder;
+use wiring::Operator;
 
 // The bits of an operand's number in a width of any size.
 pub fn resized(b: &mut Builder, x: Operand, width: u8) -> Result<Signal, OutOfMemory>
-    requires operand { IsOperand b.old x }
-    requires width { IsWidth width }
-    ensures grows { Grows b.old b.new }
-    ensures word { IfOk result (λ r. IsWord b.new r width (λ nets. code width (worth nets x))) }
-    ensures made { IfOk result (λ r. IsMadeOver b.new 0 r (x.bits ∷ [])) }
-    ensures folds { IfOk result (λ r. Folds b.old b.new r (x.bits ∷ [])) }
+    requires { IsResized b.old x width }
+    ensures { MakesWord b.old b.new result 0 (x.bits ∷ []) width
+        (λ nets. code width (worth nets x)) }
 {
     match x.ty {
         Ty::Unsigned(low) => {
@@ -40,4 +36,22 @@ pub fn resized(b: &mut Builder, x: Operand, width: u8) -> Result<Signal, OutOfMe
             Ok(atom)
         }
     }
+}
+
+// An operator on the bits of two operands, each in `width` bits.
+pub(crate) fn combined(
+    b: &mut Builder,
+    operator: Operator,
+    width: u8,
+    x: Operand,
+    y: Operand,
+) -> Result<Signal, OutOfMemory>
+    requires { AreCombined b.old operator width x y }
+    ensures { MakesWord b.old b.new result 1 (x.bits ∷ (y.bits ∷ [])) (operator_width operator width)
+        (λ s. operator_value operator width (code width (worth s x)) (code width (worth s y))) }
+{
+    let left = resized(b, x, width)?;
+    let right = resized(b, y, width)?;
+    let bits = operated(b, operator, width, left, right)?;
+    Ok(bits)
 }

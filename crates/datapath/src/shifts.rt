@@ -1,10 +1,9 @@
 // Products with powers of two, and quotients by them.
 
-ghost use Rattle.std.specs.Prelude.{◌≡◌, ◌+◌, ◌-◌, ◌^◌, ◌<◌, ◌≤◌, pos, ◌*ℤ◌, IfOk, ◌∷◌, []};
+ghost use Rattle.std.specs.Prelude.{◌^◌, ◌<◌, pos, ◌*ℤ◌, ◌∷◌, []};
 ghost use Rattle.std.specs.Int.{int_div_euclid};
-ghost use Rattle.dk_base.specs.Types.{IsType, width_of, shifted_type, narrowed_type};
-ghost use Rattle.datapath.specs.Nets.{Folds, Grows, IsMadeOver};
-ghost use Rattle.datapath.specs.Operands.{IsOperand, Carries, worth};
+ghost use Rattle.dk_base.specs.Types.{width_of, shifted_type, narrowed_type};
+ghost use Rattle.datapath.specs.Operands.{HasOperand, IsOperand, MakesOperand, worth};
 
 use crate::constants::constant;
 use crate::operand::Operand;
@@ -17,12 +16,9 @@ use std::cmp::min;
 /// An operand's number times 2 to the `by`.
 #[tactic(auto, using(crate::proofs::Carried::later))]
 pub fn shift_left(b: &mut Builder, x: Operand, by: u8) -> Result<Operand, OutOfMemory>
-    requires x { IsOperand b.old x }
-    requires ty { IsType (shifted_type x.ty by) }
-    ensures grows { Grows b.old b.new }
-    ensures value { IfOk result (λ r. Carries b.new r (shifted_type x.ty by) (λ nets. worth nets x *ℤ pos (2 ^ by))) }
-    ensures made { IfOk result (λ r. IsMadeOver b.new 0 r.bits (x.bits ∷ [])) }
-    ensures folds { IfOk result (λ r. Folds b.old b.new r.bits (x.bits ∷ [])) }
+    requires { HasOperand b.old x (shifted_type x.ty by) }
+    ensures { MakesOperand b.old b.new result 0 (x.bits ∷ []) (shifted_type x.ty by)
+        (λ nets. worth nets x *ℤ pos (2 ^ by)) }
 {
     if by == 0 {
         return Ok(x);
@@ -38,10 +34,8 @@ pub fn shift_left(b: &mut Builder, x: Operand, by: u8) -> Result<Operand, OutOfM
 fn high_bits(b: &mut Builder, x: Operand, by: u8) -> Result<Operand, OutOfMemory>
     requires x { IsOperand b.old x }
     requires by { by < width_of x.ty }
-    ensures grows { Grows b.old b.new }
-    ensures value { IfOk result (λ r. Carries b.new r (narrowed_type x.ty by) (λ nets. int_div_euclid (worth nets x) (pos (2 ^ by)))) }
-    ensures made { IfOk result (λ r. IsMadeOver b.new 0 r.bits (x.bits ∷ [])) }
-    ensures folds { IfOk result (λ r. Folds b.old b.new r.bits (x.bits ∷ [])) }
+    ensures { MakesOperand b.old b.new result 0 (x.bits ∷ []) (narrowed_type x.ty by)
+        (λ nets. int_div_euclid (worth nets x) (pos (2 ^ by))) }
 {
     let ty = x.ty.narrowed(by);
     let width = x.ty.width();
@@ -54,10 +48,8 @@ fn high_bits(b: &mut Builder, x: Operand, by: u8) -> Result<Operand, OutOfMemory
 fn shift_within(b: &mut Builder, x: Operand, by: u8) -> Result<Operand, OutOfMemory>
     requires x { IsOperand b.old x }
     requires by { by < width_of x.ty }
-    ensures grows { Grows b.old b.new }
-    ensures value { IfOk result (λ r. Carries b.new r x.ty (λ nets. int_div_euclid (worth nets x) (pos (2 ^ by)))) }
-    ensures made { IfOk result (λ r. IsMadeOver b.new 0 r.bits (x.bits ∷ [])) }
-    ensures folds { IfOk result (λ r. Folds b.old b.new r.bits (x.bits ∷ [])) }
+    ensures { MakesOperand b.old b.new result 0 (x.bits ∷ []) x.ty
+        (λ nets. int_div_euclid (worth nets x) (pos (2 ^ by))) }
 {
     let high = high_bits(b, x, by)?;
     let atom = resized(b, high, x.ty.width())?;
@@ -70,11 +62,9 @@ fn shift_within(b: &mut Builder, x: Operand, by: u8) -> Result<Operand, OutOfMem
 /// An operand's number divided by 2 to the `by`, rounded down.
 #[tactic(auto, using(crate::proofs::Carried::later))]
 pub fn shift_right(b: &mut Builder, x: Operand, by: u8) -> Result<Operand, OutOfMemory>
-    requires x { IsOperand b.old x }
-    ensures grows { Grows b.old b.new }
-    ensures value { IfOk result (λ r. Carries b.new r x.ty (λ nets. int_div_euclid (worth nets x) (pos (2 ^ by)))) }
-    ensures made { IfOk result (λ r. IsMadeOver b.new 0 r.bits (x.bits ∷ [])) }
-    ensures folds { IfOk result (λ r. Folds b.old b.new r.bits (x.bits ∷ [])) }
+    requires { IsOperand b.old x }
+    ensures { MakesOperand b.old b.new result 0 (x.bits ∷ []) x.ty
+        (λ nets. int_div_euclid (worth nets x) (pos (2 ^ by))) }
 {
     match x.ty {
         Ty::Unsigned(width) => {

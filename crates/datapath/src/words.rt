@@ -1,14 +1,12 @@
 // Nets by one operator each, over nets and constants of known widths.
 
-ghost use Rattle.std.specs.Prelude.{◌≡◌, ◌+◌, ◌-◌, ◌*◌, ◌/◌, ◌%◌, ◌^◌, ◌<◌, ◌≤◌, [], length, IfOk, nat_lt, nat_eq, bit_and, bit_or, bit_xor, if◌then◌else◌, ◌∷◌};
+ghost use Rattle.std.specs.Prelude.{◌≡◌, ◌+◌, ◌-◌, ◌*◌, ◌/◌, ◌%◌, ◌^◌, ◌<◌, ◌≤◌, [], length, IfOk, MatchResult, nat_eq, if◌then◌else◌, ◌∷◌};
 ghost use Rattle.datapath.specs.declared.operand.Signal.TheVariants as signal;
-ghost use Rattle.wiring.specs.Netlist.{Netlist};
 ghost use Rattle.wiring.specs.Rights.{repeated, operator_width, operator_value};
-ghost use Rattle.wiring.specs.Rules.{IsDivisor, DividesByDivisor};
 ghost use Rattle.wiring.specs.Sizes.{IsWidth};
 ghost use Rattle.wiring.specs.Snapshot.{right_accesses};
 ghost use Rattle.net_build.specs.Draft.{IsOperation};
-ghost use Rattle.datapath.specs.Nets.{Folds, Grows, HasWidth, IsWord, IsNetOf, IsSignal, atom_of, bits_of, bit, IsMadeOver};
+ghost use Rattle.datapath.specs.Nets.{AreChosen, AreJoined, AreOperandsOf, Grows, HasPart, HasWidth, IsNetFor, IsNetOf, IsSignal, IsSized, IsWidened, MakesWord, atom_of, bits_of};
 
 use crate::constants::{
     constant, folded, folded_join, folded_not, folded_part, folded_repeat, known,
@@ -45,21 +43,16 @@ fn net_for(b: &mut Builder, operation: Right<Net, usize>) -> Result<Net, OutOfMe
 }
 
 // The net of an operator of two operands.
-fn operated(
+pub(crate) fn operated(
     b: &mut Builder,
     operator: Operator,
     width: u8,
     x: Signal,
     y: Signal,
 ) -> Result<Signal, OutOfMemory>
-    requires width { IsWidth (operator_width operator width) }
-    requires x { HasWidth b.old x width }
-    requires y { HasWidth b.old y width }
-    requires divisor { DividesByDivisor operator (atom_of y) }
-    ensures grows { Grows b.old b.new }
-    ensures word { IfOk result (λ r. IsWord b.new r (operator_width operator width) (λ s. operator_value operator width (bits_of s x) (bits_of s y))) }
-    ensures made { IfOk result (λ r. IsMadeOver b.new 1 r (x ∷ (y ∷ []))) }
-    ensures folds { IfOk result (λ r. Folds b.old b.new r (x ∷ (y ∷ []))) }
+    requires { AreOperandsOf b.old operator width x y }
+    ensures { MakesWord b.old b.new result 1 (x ∷ (y ∷ [])) (operator_width operator width)
+        (λ s. operator_value operator width (bits_of s x) (bits_of s y)) }
 {
     match folded(b, operator, width, x, y) {
         Some(known) => return Ok(known),
@@ -70,146 +63,6 @@ fn operated(
     Ok(Signal::Net(net))
 }
 
-// The sum, modulo 2 to the width.
-pub(crate) fn add(b: &mut Builder, width: u8, x: Signal, y: Signal) -> Result<Signal, OutOfMemory>
-    requires width { IsWidth width }
-    requires x { HasWidth b.old x width }
-    requires y { HasWidth b.old y width }
-    ensures grows { Grows b.old b.new }
-    ensures word { IfOk result (λ r. IsWord b.new r width (λ s. (bits_of s x + bits_of s y) % 2 ^ width)) }
-    ensures made { IfOk result (λ r. IsMadeOver b.new 1 r (x ∷ (y ∷ []))) }
-    ensures folds { IfOk result (λ r. Folds b.old b.new r (x ∷ (y ∷ []))) }
-{
-    let atom = operated(b, Operator::Add, width, x, y)?;
-    Ok(atom)
-}
-
-// The difference, modulo 2 to the width.
-pub(crate) fn subtract(
-    b: &mut Builder,
-    width: u8,
-    x: Signal,
-    y: Signal,
-) -> Result<Signal, OutOfMemory>
-    requires width { IsWidth width }
-    requires x { HasWidth b.old x width }
-    requires y { HasWidth b.old y width }
-    ensures grows { Grows b.old b.new }
-    ensures word { IfOk result (λ r. IsWord b.new r width (λ s. (bits_of s x + 2 ^ width - bits_of s y) % 2 ^ width)) }
-    ensures made { IfOk result (λ r. IsMadeOver b.new 1 r (x ∷ (y ∷ []))) }
-    ensures folds { IfOk result (λ r. Folds b.old b.new r (x ∷ (y ∷ []))) }
-{
-    let atom = operated(b, Operator::Subtract, width, x, y)?;
-    Ok(atom)
-}
-
-// The product, modulo 2 to the width.
-pub(crate) fn multiply(
-    b: &mut Builder,
-    width: u8,
-    x: Signal,
-    y: Signal,
-) -> Result<Signal, OutOfMemory>
-    requires width { IsWidth width }
-    requires x { HasWidth b.old x width }
-    requires y { HasWidth b.old y width }
-    ensures grows { Grows b.old b.new }
-    ensures word { IfOk result (λ r. IsWord b.new r width (λ s. bits_of s x * bits_of s y % 2 ^ width)) }
-    ensures made { IfOk result (λ r. IsMadeOver b.new 1 r (x ∷ (y ∷ []))) }
-    ensures folds { IfOk result (λ r. Folds b.old b.new r (x ∷ (y ∷ []))) }
-{
-    let atom = operated(b, Operator::Multiply, width, x, y)?;
-    Ok(atom)
-}
-
-// The quotient by a constant.
-pub(crate) fn divide(
-    b: &mut Builder,
-    width: u8,
-    x: Signal,
-    y: Signal,
-) -> Result<Signal, OutOfMemory>
-    requires width { IsWidth width }
-    requires x { HasWidth b.old x width }
-    requires y { HasWidth b.old y width }
-    requires divisor { IsDivisor (atom_of y) }
-    ensures grows { Grows b.old b.new }
-    ensures word { IfOk result (λ r. IsWord b.new r width (λ s. bits_of s x / bits_of s y)) }
-    ensures made { IfOk result (λ r. IsMadeOver b.new 1 r (x ∷ (y ∷ []))) }
-    ensures folds { IfOk result (λ r. Folds b.old b.new r (x ∷ (y ∷ []))) }
-{
-    let atom = operated(b, Operator::Divide, width, x, y)?;
-    Ok(atom)
-}
-
-// Whether the first is less.
-pub(crate) fn less(b: &mut Builder, width: u8, x: Signal, y: Signal) -> Result<Signal, OutOfMemory>
-    requires x { HasWidth b.old x width }
-    requires y { HasWidth b.old y width }
-    ensures grows { Grows b.old b.new }
-    ensures word { IfOk result (λ r. IsWord b.new r 1 (λ s. bit (nat_lt (bits_of s x) (bits_of s y)))) }
-    ensures made { IfOk result (λ r. IsMadeOver b.new 1 r (x ∷ (y ∷ []))) }
-    ensures folds { IfOk result (λ r. Folds b.old b.new r (x ∷ (y ∷ []))) }
-{
-    let atom = operated(b, Operator::Less, width, x, y)?;
-    Ok(atom)
-}
-
-// Whether both are equal.
-pub(crate) fn equal(b: &mut Builder, width: u8, x: Signal, y: Signal) -> Result<Signal, OutOfMemory>
-    requires x { HasWidth b.old x width }
-    requires y { HasWidth b.old y width }
-    ensures grows { Grows b.old b.new }
-    ensures word { IfOk result (λ r. IsWord b.new r 1 (λ s. bit (nat_eq (bits_of s x) (bits_of s y)))) }
-    ensures made { IfOk result (λ r. IsMadeOver b.new 1 r (x ∷ (y ∷ []))) }
-    ensures folds { IfOk result (λ r. Folds b.old b.new r (x ∷ (y ∷ []))) }
-{
-    let atom = operated(b, Operator::Equal, width, x, y)?;
-    Ok(atom)
-}
-
-// The bits that both have.
-pub(crate) fn and(b: &mut Builder, width: u8, x: Signal, y: Signal) -> Result<Signal, OutOfMemory>
-    requires width { IsWidth width }
-    requires x { HasWidth b.old x width }
-    requires y { HasWidth b.old y width }
-    ensures grows { Grows b.old b.new }
-    ensures word { IfOk result (λ r. IsWord b.new r width (λ s. bit_and (bits_of s x) (bits_of s y))) }
-    ensures made { IfOk result (λ r. IsMadeOver b.new 1 r (x ∷ (y ∷ []))) }
-    ensures folds { IfOk result (λ r. Folds b.old b.new r (x ∷ (y ∷ []))) }
-{
-    let atom = operated(b, Operator::And, width, x, y)?;
-    Ok(atom)
-}
-
-// The bits that one of them has.
-pub(crate) fn or(b: &mut Builder, width: u8, x: Signal, y: Signal) -> Result<Signal, OutOfMemory>
-    requires width { IsWidth width }
-    requires x { HasWidth b.old x width }
-    requires y { HasWidth b.old y width }
-    ensures grows { Grows b.old b.new }
-    ensures word { IfOk result (λ r. IsWord b.new r width (λ s. bit_or (bits_of s x) (bits_of s y))) }
-    ensures made { IfOk result (λ r. IsMadeOver b.new 1 r (x ∷ (y ∷ []))) }
-    ensures folds { IfOk result (λ r. Folds b.old b.new r (x ∷ (y ∷ []))) }
-{
-    let atom = operated(b, Operator::Or, width, x, y)?;
-    Ok(atom)
-}
-
-// The bits that exactly one of them has.
-pub(crate) fn xor(b: &mut Builder, width: u8, x: Signal, y: Signal) -> Result<Signal, OutOfMemory>
-    requires width { IsWidth width }
-    requires x { HasWidth b.old x width }
-    requires y { HasWidth b.old y width }
-    ensures grows { Grows b.old b.new }
-    ensures word { IfOk result (λ r. IsWord b.new r width (λ s. bit_xor (bits_of s x) (bits_of s y))) }
-    ensures made { IfOk result (λ r. IsMadeOver b.new 1 r (x ∷ (y ∷ []))) }
-    ensures folds { IfOk result (λ r. Folds b.old b.new r (x ∷ (y ∷ []))) }
-{
-    let atom = operated(b, Operator::Xor, width, x, y)?;
-    Ok(atom)
-}
-
 // The first where the bit is 1, else the second.
 pub(crate) fn choose(
     b: &mut Builder,
@@ -218,14 +71,9 @@ pub(crate) fn choose(
     x: Signal,
     y: Signal,
 ) -> Result<Signal, OutOfMemory>
-    requires width { IsWidth width }
-    requires c { HasWidth b.old c 1 }
-    requires x { HasWidth b.old x width }
-    requires y { HasWidth b.old y width }
-    ensures grows { Grows b.old b.new }
-    ensures word { IfOk result (λ r. IsWord b.new r width (λ s. if nat_eq (bits_of s c) 1 then bits_of s x else bits_of s y)) }
-    ensures made { IfOk result (λ r. IsMadeOver b.new 1 r (c ∷ (x ∷ (y ∷ [])))) }
-    ensures folds { IfOk result (λ r. Folds b.old b.new r (c ∷ (x ∷ (y ∷ [])))) }
+    requires { AreChosen b.old width c x y }
+    ensures { MakesWord b.old b.new result 1 (c ∷ (x ∷ (y ∷ []))) width
+        (λ s. if nat_eq (bits_of s c) 1 then bits_of s x else bits_of s y) }
 {
     match known(c) {
         Some(bit) => {
@@ -250,14 +98,9 @@ pub(crate) fn join(
     low: u8,
     y: Signal,
 ) -> Result<Signal, OutOfMemory>
-    requires some { 1 ≤ low }
-    requires most { high + low ≤ 64 }
-    requires x { HasWidth b.old x high }
-    requires y { HasWidth b.old y low }
-    ensures grows { Grows b.old b.new }
-    ensures word { IfOk result (λ r. IsWord b.new r (high + low) (λ s. bits_of s x * 2 ^ low + bits_of s y)) }
-    ensures made { IfOk result (λ r. IsMadeOver b.new 0 r (x ∷ (y ∷ []))) }
-    ensures folds { IfOk result (λ r. Folds b.old b.new r (x ∷ (y ∷ []))) }
+    requires { AreJoined b.old high x low y }
+    ensures { MakesWord b.old b.new result 0 (x ∷ (y ∷ [])) (high + low)
+        (λ s. bits_of s x * 2 ^ low + bits_of s y) }
 {
     match folded_join(b, high, x, low, y) {
         Some(known) => return Ok(known),
@@ -272,10 +115,7 @@ pub(crate) fn join(
 pub(crate) fn repeat(b: &mut Builder, count: u8, x: Signal) -> Result<Signal, OutOfMemory>
     requires width { IsWidth count }
     requires x { HasWidth b.old x 1 }
-    ensures grows { Grows b.old b.new }
-    ensures word { IfOk result (λ r. IsWord b.new r count (λ s. repeated count 1 (bits_of s x))) }
-    ensures made { IfOk result (λ r. IsMadeOver b.new 0 r (x ∷ [])) }
-    ensures folds { IfOk result (λ r. Folds b.old b.new r (x ∷ [])) }
+    ensures { MakesWord b.old b.new result 0 (x ∷ []) count (λ s. repeated count 1 (bits_of s x)) }
 {
     match folded_repeat(b, count, x) {
         Some(known) => return Ok(known),
@@ -288,12 +128,8 @@ pub(crate) fn repeat(b: &mut Builder, count: u8, x: Signal) -> Result<Signal, Ou
 
 // The other bits.
 pub(crate) fn complement(b: &mut Builder, width: u8, x: Signal) -> Result<Signal, OutOfMemory>
-    requires width { IsWidth width }
-    requires x { HasWidth b.old x width }
-    ensures grows { Grows b.old b.new }
-    ensures word { IfOk result (λ r. IsWord b.new r width (λ s. 2 ^ width - 1 - bits_of s x)) }
-    ensures made { IfOk result (λ r. IsMadeOver b.new 1 r (x ∷ [])) }
-    ensures folds { IfOk result (λ r. Folds b.old b.new r (x ∷ [])) }
+    requires { IsSized b.old width x }
+    ensures { MakesWord b.old b.new result 1 (x ∷ []) width (λ s. 2 ^ width - 1 - bits_of s x) }
 {
     match folded_not(b, width, x) {
         Some(known) => return Ok(known),
@@ -306,11 +142,8 @@ pub(crate) fn complement(b: &mut Builder, width: u8, x: Signal) -> Result<Signal
 
 // A constant as a net.
 fn copied(b: &mut Builder, width: u8, x: Signal) -> Result<Net, OutOfMemory>
-    requires width { IsWidth width }
-    requires x { HasWidth b.old x width }
-    ensures grows { Grows b.old b.new }
-    ensures word { IfOk result (λ n. IsWord b.new (signal.Net n) width (λ s. bits_of s x)) }
-    ensures made { IfOk result (λ r. IsMadeOver b.new 0 (signal.Net r) (x ∷ [])) }
+    requires { IsSized b.old width x }
+    ensures net { MatchResult result (IsNetFor b.old b.new width x) (λ e. Grows b.old b.new) }
     ensures one { length b.new.assigns ≤ length b.old.assigns + 1 }
 {
     let operand = atom(x);
@@ -321,11 +154,8 @@ fn copied(b: &mut Builder, width: u8, x: Signal) -> Result<Net, OutOfMemory>
 // The net of an operand.
 #[tactic(auto, using(crate::proofs::Growth::later))]
 pub(crate) fn net_of(b: &mut Builder, width: u8, x: Signal) -> Result<Net, OutOfMemory>
-    requires width { IsWidth width }
-    requires x { HasWidth b.old x width }
-    ensures grows { Grows b.old b.new }
-    ensures word { IfOk result (λ n. IsWord b.new (signal.Net n) width (λ s. bits_of s x)) }
-    ensures made { IfOk result (λ r. IsMadeOver b.new 0 (signal.Net r) (x ∷ [])) }
+    requires { IsSized b.old width x }
+    ensures net { MatchResult result (IsNetFor b.old b.new width x) (λ e. Grows b.old b.new) }
     ensures one { length b.new.assigns ≤ length b.old.assigns + 1 }
 {
     match x {
@@ -339,14 +169,10 @@ pub(crate) fn net_of(b: &mut Builder, width: u8, x: Signal) -> Result<Net, OutOf
 
 // The `count` bits of a net from bit `low` on, which are not all.
 fn slice(b: &mut Builder, width: u8, x: Net, low: u8, count: u8) -> Result<Signal, OutOfMemory>
-    requires width { IsWidth width }
-    requires some { 1 ≤ count }
-    requires inside { low + count ≤ width }
+    requires part { HasPart b.old width (signal.Net x) low count }
     requires proper { count < width }
-    requires x { HasWidth b.old (signal.Net x) width }
-    ensures grows { Grows b.old b.new }
-    ensures word { IfOk result (λ r. IsWord b.new r count (λ s. bits_of s (signal.Net x) / 2 ^ low % 2 ^ count)) }
-    ensures made { IfOk result (λ r. IsMadeOver b.new 0 r ((signal.Net x) ∷ [])) }
+    ensures { MakesWord b.old b.new result 0 (signal.Net x ∷ []) count
+        (λ s. bits_of s (signal.Net x) / 2 ^ low % 2 ^ count) }
 {
     let first = low as u64;
     let last = first + count as u64 - 1;
@@ -363,14 +189,8 @@ pub(crate) fn part(
     low: u8,
     count: u8,
 ) -> Result<Signal, OutOfMemory>
-    requires width { IsWidth width }
-    requires some { 1 ≤ count }
-    requires inside { low + count ≤ width }
-    requires x { HasWidth b.old x width }
-    ensures grows { Grows b.old b.new }
-    ensures word { IfOk result (λ r. IsWord b.new r count (λ s. bits_of s x / 2 ^ low % 2 ^ count)) }
-    ensures made { IfOk result (λ r. IsMadeOver b.new 0 r (x ∷ [])) }
-    ensures folds { IfOk result (λ r. Folds b.old b.new r (x ∷ [])) }
+    requires { HasPart b.old width x low count }
+    ensures { MakesWord b.old b.new result 0 (x ∷ []) count (λ s. bits_of s x / 2 ^ low % 2 ^ count) }
 {
     if count == width {
         return Ok(x);
@@ -391,14 +211,8 @@ pub(crate) fn with_zeros(
     low: u8,
     x: Signal,
 ) -> Result<Signal, OutOfMemory>
-    requires high { 1 ≤ high }
-    requires low { 1 ≤ low }
-    requires most { high + low ≤ 64 }
-    requires x { HasWidth b.old x low }
-    ensures grows { Grows b.old b.new }
-    ensures word { IfOk result (λ r. IsWord b.new r (high + low) (λ s. bits_of s x)) }
-    ensures made { IfOk result (λ r. IsMadeOver b.new 0 r (x ∷ [])) }
-    ensures folds { IfOk result (λ r. Folds b.old b.new r (x ∷ [])) }
+    requires { IsWidened b.old high low x }
+    ensures { MakesWord b.old b.new result 0 (x ∷ []) (high + low) (λ s. bits_of s x) }
 {
     let zeros = constant(high, 0);
     let atom = join(b, high, zeros, low, x)?;
@@ -413,14 +227,9 @@ pub(crate) fn with_signs(
     low: u8,
     x: Signal,
 ) -> Result<Signal, OutOfMemory>
-    requires high { 1 ≤ high }
-    requires low { 1 ≤ low }
-    requires most { high + low ≤ 64 }
-    requires x { HasWidth b.old x low }
-    ensures grows { Grows b.old b.new }
-    ensures word { IfOk result (λ r. IsWord b.new r (high + low) (λ s. repeated high 1 (bits_of s x / 2 ^ (low - 1) % 2 ^ 1) * 2 ^ low + bits_of s x)) }
-    ensures made { IfOk result (λ r. IsMadeOver b.new 0 r (x ∷ [])) }
-    ensures folds { IfOk result (λ r. Folds b.old b.new r (x ∷ [])) }
+    requires { IsWidened b.old high low x }
+    ensures { MakesWord b.old b.new result 0 (x ∷ []) (high + low)
+        (λ s. repeated high 1 (bits_of s x / 2 ^ (low - 1) % 2 ^ 1) * 2 ^ low + bits_of s x) }
 {
     let sign = part(b, low, x, low - 1, 1)?;
     let signs = repeat(b, high, sign)?;

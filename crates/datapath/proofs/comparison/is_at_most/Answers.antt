@@ -2,22 +2,23 @@ use Rattle.std.proofs.Common.{◌∙◌}
 use Rattle.datapath.proofs.Compared.{opposite_carries}
 use Rattle.datapath.proofs.Growth.{then_grows}
 use Rattle.datapath.proofs.Over.{then_one, then_two, over_later, first_over, second_over}
+use Rattle.datapath.proofs.Composed.{common_turned_type}
+use Rattle.datapath.proofs.Failing.{at_err}
 use Rattle.datapath.proofs.comparison.is_at_most.Goals as goal
 
-pub returns-clause-value : goal.returns-clause-value
-returns-clause-value c = opposite_carries _ _ _ _ _ c.bit_complement.ensures.grows.includes c.in_ok-opposite.ensures.value c.in_ok-negation.ensures.value
+pub returns : goal.returns
+returns c = record {
+  grows = then_grows c.in_ok-opposite.ensures.grows c.in_ok-negation.ensures.grows;
+  value = opposite_carries _ _ _ _ _ c.in_ok-negation.ensures.grows.includes c.in_ok-opposite.ensures.value c.in_ok-negation.ensures.value;
+  made = then_one 2 c.in_ok-negation.ensures.made (over_later c.in_ok-negation.ensures.grows.includes (then_two 0 c.in_ok-opposite.ensures.made second_over first_over));
+  folds = λ h. let opposite = c.in_ok-opposite.ensures.folds (h.1.0, (h.0, tt)) in let all = c.in_ok-negation.ensures.folds (opposite.0, tt) in (all.0, all.1 ∙ opposite.1);
+}
 
-pub returns-in_err-negation-clause-grows : goal.returns-in_err-negation-clause-grows
-returns-in_err-negation-clause-grows c = then_grows c.is_less.ensures.grows c.bit_complement.ensures.grows
+pub returns-in_err-negation : goal.returns-in_err-negation
+returns-in_err-negation c = at_err _ _ c.from_residual-in_err-negation.result c.from_residual-in_err-negation.ensures.1 (then_grows c.in_ok-opposite.ensures.grows c.in_err-negation.ensures)
 
-pub returns-clause-grows : goal.returns-clause-grows
-returns-clause-grows c = then_grows c.is_less.ensures.grows c.bit_complement.ensures.grows
+pub is_less-requires : goal.is_less-requires
+is_less-requires c = record { x = c.requires.y; y = c.requires.x; ty = common_turned_type _ _ c.requires.ty }
 
-pub returns-clause-made : goal.returns-clause-made
-returns-clause-made c = then_one 2 c.in_ok-negation.ensures.made (over_later c.bit_complement.ensures.grows.includes (then_two 0 c.in_ok-opposite.ensures.made second_over first_over))
-
-pub returns-clause-folds : goal.returns-clause-folds
-returns-clause-folds c h =
-    let opposite = c.in_ok-opposite.ensures.folds (h.1.0, (h.0, tt)) in
-    let all = c.in_ok-negation.ensures.folds (opposite.0, tt) in
-    (all.0, all.1 ∙ opposite.1)
+pub bit_complement-requires : goal.bit_complement-requires
+bit_complement-requires c = record { x = c.in_ok-opposite.ensures.value.operand; ty = c.in_ok-opposite.ensures.value.is }

@@ -1,36 +1,32 @@
-use Rattle.std.proofs.Common.{◌∙◌}
-use Rattle.datapath.proofs.Compared.{within_left, within_right, less_carries}
+use Rattle.std.proofs.Common.{arith}
+use Rattle.std.specs.Prelude.{nat_lt}
+use Rattle.datapath.specs.Nets.{bit}
 use Rattle.datapath.proofs.Growth.{then_grows, width_later, has_width_of}
-use Rattle.datapath.proofs.Over.{two_over}
+use Rattle.datapath.proofs.Carried.{operand_later}
+use Rattle.datapath.proofs.Compared.{within_left, within_right, less_carries}
+use Rattle.datapath.proofs.Composed.{two_words, as_type}
+use Rattle.datapath.proofs.Failing.{at_err}
 use Rattle.datapath.proofs.comparison.is_less.Goals as goal
 
-pub offset-requires-clause-within : goal.offset-requires-clause-within
-offset-requires-clause-within c = within_left c.args.x.ty c.args.y.ty _ c.common-ty.ensures
+pub offset-requires : goal.offset-requires
+offset-requires c = record { x = c.requires.x; ty = as_type _ _ c.common-ty.ensures c.requires.ty; within = within_left c.args.x.ty c.args.y.ty _ c.common-ty.ensures }
 
-pub offset-requires-2-clause-within : goal.offset-requires-2-clause-within
-offset-requires-2-clause-within c = within_right c.args.x.ty c.args.y.ty _ c.common-ty.ensures
+pub offset-requires-2 : goal.offset-requires-2
+offset-requires-2 c = record { x = operand_later _ _ _ c.in_ok-left.ensures.grows c.requires.y; ty = as_type _ _ c.common-ty.ensures c.requires.ty; within = within_right c.args.x.ty c.args.y.ty _ c.common-ty.ensures }
 
-pub returns-clause-value : goal.returns-clause-value
-returns-clause-value c = less_carries _ _ _ _ c.args.x c.args.y _ _ _ c.common-ty.result _ _ c.common-ty.ensures c.requires.x c.requires.y c.offset.ensures.grows.includes c.offset-2.ensures.grows.includes c.less.ensures.grows.includes c.in_ok-left.ensures.word c.in_ok-right.ensures.word c.in_ok-atom.ensures.word
+pub operated-requires : goal.operated-requires
+operated-requires c = record {
+  width = (omega arith, omega arith);
+  x = width_later _ _ _ _ c.in_ok-right.ensures.grows (has_width_of c.width.ensures c.in_ok-left.ensures.word.width);
+  y = has_width_of c.width.ensures c.in_ok-right.ensures.word.width;
+  divisor = tt;
+}
 
-pub returns-in_err-right-clause-grows : goal.returns-in_err-right-clause-grows
-returns-in_err-right-clause-grows c = then_grows c.offset.ensures.grows c.offset-2.ensures.grows
+pub returns-in_err-right : goal.returns-in_err-right
+returns-in_err-right c = at_err _ _ c.from_residual-in_err-right.result c.from_residual-in_err-right.ensures.1 (then_grows c.in_ok-left.ensures.grows c.in_err-right.ensures)
 
-pub returns-in_err-atom-clause-grows : goal.returns-in_err-atom-clause-grows
-returns-in_err-atom-clause-grows c = then_grows (then_grows c.offset.ensures.grows c.offset-2.ensures.grows) c.less.ensures.grows
+pub returns-in_err-atom : goal.returns-in_err-atom
+returns-in_err-atom c = at_err _ _ c.from_residual-in_err-atom.result c.from_residual-in_err-atom.ensures.1 (then_grows (then_grows c.in_ok-left.ensures.grows c.in_ok-right.ensures.grows) c.in_err-atom.ensures)
 
-pub returns-clause-grows : goal.returns-clause-grows
-returns-clause-grows c = then_grows (then_grows c.offset.ensures.grows c.offset-2.ensures.grows) c.less.ensures.grows
-
-pub less-requires-clause-x : goal.less-requires-clause-x
-less-requires-clause-x c = width_later _ _ _ _ c.offset-2.ensures.grows (has_width_of c.width.ensures c.in_ok-left.ensures.word.width)
-
-pub returns-clause-made : goal.returns-clause-made
-returns-clause-made c = two_over 1 c.offset-2.ensures.grows.includes c.less.ensures.grows.includes c.in_ok-left.ensures.made c.in_ok-right.ensures.made c.in_ok-atom.ensures.made
-
-pub returns-clause-folds : goal.returns-clause-folds
-returns-clause-folds c h =
-    let left = c.in_ok-left.ensures.folds (h.0, tt) in
-    let right = c.in_ok-right.ensures.folds (h.1.0, tt) in
-    let all = c.in_ok-atom.ensures.folds (left.0, (right.0, tt)) in
-    (all.0, all.1 ∙ right.1 ∙ left.1)
+pub returns : goal.returns
+returns c = less_carries c.args.x c.args.y c.common-ty.result c.common-ty.ensures c.requires.x c.requires.y (two_words (λ p q. bit (nat_lt p q)) 1 c.in_ok-left.ensures c.in_ok-right.ensures c.in_ok-atom.ensures)

@@ -1,17 +1,21 @@
-use Rattle.std.proofs.Common.{refl}
+use Rattle.std.proofs.Common.{refl, ap}
 use Rattle.datapath.proofs.Divided.{unsigned_magnitude_carries}
 use Rattle.datapath.proofs.Growth.{grows_itself}
 use Rattle.datapath.proofs.Over.{itself_over}
+use Rattle.datapath.proofs.Composed.{typed_carries}
+use Rattle.dk_base.specs.Types.{magnitude_type}
 use Rattle.datapath.proofs.division.magnitude.Goals as goal
 
-pub returns-in-Unsigned-clause-value : goal.returns-in-Unsigned-clause-value
-returns-in-Unsigned-clause-value c = unsigned_magnitude_carries _ c.args.x _ c.in-Unsigned.is c.requires.x
+pub returns-in-Unsigned : goal.returns-in-Unsigned
+returns-in-Unsigned c = record {
+  grows = grows_itself _;
+  value = unsigned_magnitude_carries _ c.args.x _ c.in-Unsigned.is c.requires;
+  made = itself_over;
+  folds = λ h. (h.0, refl);
+}
 
-pub returns-in-Unsigned-clause-grows : goal.returns-in-Unsigned-clause-grows
-returns-in-Unsigned-clause-grows c = grows_itself _
+pub signed_magnitude-requires : goal.signed_magnitude-requires
+signed_magnitude-requires c = record { x = c.requires; ty = c.in-Signed.is }
 
-pub returns-in-Unsigned-clause-made : goal.returns-in-Unsigned-clause-made
-returns-in-Unsigned-clause-made c = itself_over
-
-pub returns-in-Unsigned-clause-folds : goal.returns-in-Unsigned-clause-folds
-returns-in-Unsigned-clause-folds c h = (h.0, refl)
+pub returns-in_ok-size-in-Signed : goal.returns-in_ok-size-in-Signed
+returns-in_ok-size-in-Signed c = typed_carries (ap magnitude_type c.in-Signed.is) c.in_ok-size-in-Signed.ensures

@@ -1,23 +1,35 @@
-use Rattle.std.proofs.Common.{ap, arith, rules}
-use Rattle.datapath.specs.Nets.{bits_of, HasWidth}
+use Rattle.std.proofs.Common.{ap, arith, refl}
+use Rattle.datapath.specs.Nets.{bits_of}
 use Rattle.datapath.proofs.Growth.{grows_itself}
 use Rattle.datapath.proofs.Over.{itself_over, nothing_over}
-use Rattle.datapath.proofs.Toward.{far_carries}
+use Rattle.datapath.proofs.Toward.{far_carries, near_carries}
+use Rattle.datapath.proofs.Composed.{type_width}
 use Rattle.datapath.proofs.division.power_quotient.Goals as goal
 
-pub returns-then-by-eq0-clause-grows : goal.returns-then-by-eq0-clause-grows
-returns-then-by-eq0-clause-grows c = grows_itself _
+pub returns-then-by-eq0 : goal.returns-then-by-eq0
+returns-then-by-eq0 c = record {
+  grows = grows_itself _;
+  value = near_carries _ c.args.x _ (omega (arith, c.if-by-eq0.true)) c.requires.x;
+  made = itself_over;
+  folds = λ h. (h.0, refl);
+}
 
-pub returns-then-by-eq0-clause-made : goal.returns-then-by-eq0-clause-made
-returns-then-by-eq0-clause-made c = itself_over
+pub returns-then-by-width : goal.returns-then-by-width
+returns-then-by-width c = record {
+  grows = grows_itself _;
+  value = far_carries _ c.args.x c.constant.result c.args.width c.args.by c.requires.ty (omega (arith, c.if-by-width.true)) c.requires.x (c.constant.ensures.width _) (λ nets. ap (bits_of nets) c.constant.ensures.is);
+  made = nothing_over (c.constant.ensures.made _);
+  folds = λ h. (c.constant.ensures.known, refl);
+}
 
-pub returns-then-by-width-clause-grows : goal.returns-then-by-width-clause-grows
-returns-then-by-width-clause-grows c = grows_itself _
+pub constant-requires-clause-width : goal.constant-requires-clause-width
+constant-requires-clause-width c = type_width _ _ c.requires.ty c.requires.x.ty
 
-pub returns-then-by-width-clause-value : goal.returns-then-by-width-clause-value
-returns-then-by-width-clause-value c =
-    let width : HasWidth c.args.b.now c.constant.result c.args.width = search rules in
-    far_carries _ c.args.x c.constant.result c.args.width c.args.by c.requires.ty (omega (arith, c.if-by-width.true)) c.requires.x width (λ nets. ap (bits_of nets) c.constant.ensures.is)
+pub shifted_toward_zero-requires-clause-operand : goal.shifted_toward_zero-requires-clause-operand
+shifted_toward_zero-requires-clause-operand c = c.requires
 
-pub returns-then-by-width-clause-made : goal.returns-then-by-width-clause-made
-returns-then-by-width-clause-made c = nothing_over (c.constant.ensures.made _)
+pub shifted_toward_zero-requires-clause-by : goal.shifted_toward_zero-requires-clause-by
+shifted_toward_zero-requires-clause-by c = (omega (arith, c.if-by-eq0.false), omega (arith, c.if-by-width.false))
+
+pub returns : goal.returns
+returns c = c.in_ok-quotient.ensures

@@ -37,55 +37,31 @@ pub returns-in-Read-clause-walked : goal.returns-in-Read-clause-walked
 returns-in-Read-clause-walked t c = rw c.leaf.ensures (read_walked _ _ _ _ _ _ _ _ _ _ _ _ (ap tree_of c.in-Read.is) refl c.requires.leaves c.read_at.ensures)
 
 pub returns-in_err-unary-in-Unary-clause-grows : goal.returns-in_err-unary-in-Unary-clause-grows
-returns-in_err-unary-in-Unary-clause-grows t c = then_grows c.walk-in-Unary.ensures.grows c.unary.ensures.grows
+returns-in_err-unary-in-Unary-clause-grows t c = then_grows c.walk-in-Unary.ensures.grows c.in_err-unary-in-Unary.ensures
 
 pub returns-in_ok-unary-in-Unary-clause-grows : goal.returns-in_ok-unary-in-Unary-clause-grows
-returns-in_ok-unary-in-Unary-clause-grows t c = then_grows c.walk-in-Unary.ensures.grows c.unary.ensures.grows
+returns-in_ok-unary-in-Unary-clause-grows t c = then_grows c.walk-in-Unary.ensures.grows c.in_ok-unary-in-Unary.ensures.grows
 
 pub returns-in_ok-unary-in-Unary-clause-walked : goal.returns-in_ok-unary-in-Unary-clause-walked
-returns-in_ok-unary-in-Unary-clause-walked t c = rw c.placed-in-Unary.ensures (unary_walked _ _ _ _ _ _ _ c.in_ok-x-in-Unary.x _ _ _ (unary_tree _ _ _ _ _ c.in-Unary.is c.deref-in-Unary.ensures) c.unary.ensures.grows.includes c.in_ok-x-in-Unary.ensures.walked c.in_ok-unary-in-Unary.ensures.value c.in_ok-unary-in-Unary.ensures.made)
+returns-in_ok-unary-in-Unary-clause-walked t c = rw c.placed-in-Unary.ensures (unary_walked _ _ _ _ _ _ _ c.in_ok-x-in-Unary.x _ _ _ (unary_tree _ _ _ _ _ c.in-Unary.is c.deref-in-Unary.ensures) c.in_ok-unary-in-Unary.ensures.grows.includes c.in_ok-x-in-Unary.ensures.walked c.in_ok-unary-in-Unary.ensures.value c.in_ok-unary-in-Unary.ensures.made)
 
 pub returns-in_err-converted-in-Convert-clause-grows : goal.returns-in_err-converted-in-Convert-clause-grows
-returns-in_err-converted-in-Convert-clause-grows t c = then_grows c.walk-in-Convert.ensures.grows c.converted.ensures.grows
+returns-in_err-converted-in-Convert-clause-grows t c = then_grows c.walk-in-Convert.ensures.grows c.in_err-converted-in-Convert.ensures
 
 pub returns-in_ok-converted-in-Convert-clause-grows : goal.returns-in_ok-converted-in-Convert-clause-grows
-returns-in_ok-converted-in-Convert-clause-grows t c = then_grows c.walk-in-Convert.ensures.grows c.converted.ensures.grows
+returns-in_ok-converted-in-Convert-clause-grows t c = then_grows c.walk-in-Convert.ensures.grows c.in_ok-converted-in-Convert.ensures.grows
 
 pub returns-in_ok-converted-in-Convert-clause-walked : goal.returns-in_ok-converted-in-Convert-clause-walked
-returns-in_ok-converted-in-Convert-clause-walked t c = rw c.placed-in-Convert.ensures (convert_walked _ _ _ _ _ _ _ c.in_ok-x-in-Convert.x _ _ _ _ (convert_tree _ _ _ _ _ _ c.in-Convert.is c.deref-in-Convert.ensures) c.converted.ensures.grows.includes c.in_ok-x-in-Convert.ensures.walked c.in_ok-converted-in-Convert.ensures.value c.in_ok-converted-in-Convert.ensures.made)
+returns-in_ok-converted-in-Convert-clause-walked t c = rw c.placed-in-Convert.ensures (convert_walked _ _ _ _ _ _ _ c.in_ok-x-in-Convert.x _ _ _ _ (convert_tree _ _ _ _ _ _ c.in-Convert.is c.deref-in-Convert.ensures) c.in_ok-converted-in-Convert.ensures.grows.includes c.in_ok-x-in-Convert.ensures.walked c.in_ok-converted-in-Convert.ensures.value c.in_ok-converted-in-Convert.ensures.made)
 
 pub returns-in_err-scaled-in-Scale-clause-grows : goal.returns-in_err-scaled-in-Scale-clause-grows
-returns-in_err-scaled-in-Scale-clause-grows t c = then_grows c.walk-in-Scale.ensures.grows c.scaled.ensures.grows
+returns-in_err-scaled-in-Scale-clause-grows t c = then_grows c.walk-in-Scale.ensures.grows c.in_err-scaled-in-Scale.ensures
 
 pub returns-in_ok-scaled-in-Scale-clause-grows : goal.returns-in_ok-scaled-in-Scale-clause-grows
-returns-in_ok-scaled-in-Scale-clause-grows t c = then_grows c.walk-in-Scale.ensures.grows c.scaled.ensures.grows
+returns-in_ok-scaled-in-Scale-clause-grows t c = then_grows c.walk-in-Scale.ensures.grows c.in_ok-scaled-in-Scale.ensures.grows
 
 pub returns-in_ok-scaled-in-Scale-clause-walked : goal.returns-in_ok-scaled-in-Scale-clause-walked
-returns-in_ok-scaled-in-Scale-clause-walked t c = rw c.placed-in-Scale.ensures (scale_walked _ _ _ _ _ _ _ c.in_ok-x-in-Scale.x _ _ _ _ (scale_tree _ _ _ _ _ _ c.in-Scale.is c.deref-in-Scale.ensures) c.scaled.ensures.grows.includes c.in_ok-x-in-Scale.ensures.walked c.in_ok-scaled-in-Scale.ensures.value c.in_ok-scaled-in-Scale.ensures.made)
-
-pub unary-requires-clause-x : goal.unary-requires-clause-x
-unary-requires-clause-x t c = c.in_ok-x-in-Unary.ensures.walked.carries.operand
-
-pub unary-requires-clause-takes : goal.unary-requires-clause-takes
-unary-requires-clause-takes t c = (unary_takes _ _ _ _ _ c.requires.part _ _ _ (unary_tree _ _ _ _ _ c.in-Unary.is c.deref-in-Unary.ensures) c.in_ok-x-in-Unary.ensures.walked.carries.is).0
-
-pub unary-requires-clause-ty : goal.unary-requires-clause-ty
-unary-requires-clause-ty t c = (unary_takes _ _ _ _ _ c.requires.part _ _ _ (unary_tree _ _ _ _ _ c.in-Unary.is c.deref-in-Unary.ensures) c.in_ok-x-in-Unary.ensures.walked.carries.is).1
-
-pub converted-requires-clause-x : goal.converted-requires-clause-x
-converted-requires-clause-x t c = c.in_ok-x-in-Convert.ensures.walked.carries.operand
-
-pub converted-requires-clause-ty : goal.converted-requires-clause-ty
-converted-requires-clause-ty t c = convert_type _ _ _ _ _ c.requires.part _ _ _ (convert_tree _ _ _ _ _ _ c.in-Convert.is c.deref-in-Convert.ensures)
-
-pub scaled-requires-clause-x : goal.scaled-requires-clause-x
-scaled-requires-clause-x t c = c.in_ok-x-in-Scale.ensures.walked.carries.operand
-
-pub scaled-requires-clause-by : goal.scaled-requires-clause-by
-scaled-requires-clause-by t c = (scale_takes _ _ _ _ _ c.requires.part _ _ _ _ (scale_tree _ _ _ _ _ _ c.in-Scale.is c.deref-in-Scale.ensures) c.in_ok-x-in-Scale.ensures.walked.carries.is).0
-
-pub scaled-requires-clause-ty : goal.scaled-requires-clause-ty
-scaled-requires-clause-ty t c = (scale_takes _ _ _ _ _ c.requires.part _ _ _ _ (scale_tree _ _ _ _ _ _ c.in-Scale.is c.deref-in-Scale.ensures) c.in_ok-x-in-Scale.ensures.walked.carries.is).1
+returns-in_ok-scaled-in-Scale-clause-walked t c = rw c.placed-in-Scale.ensures (scale_walked _ _ _ _ _ _ _ c.in_ok-x-in-Scale.x _ _ _ _ (scale_tree _ _ _ _ _ _ c.in-Scale.is c.deref-in-Scale.ensures) c.in_ok-scaled-in-Scale.ensures.grows.includes c.in_ok-x-in-Scale.ensures.walked c.in_ok-scaled-in-Scale.ensures.value c.in_ok-scaled-in-Scale.ensures.made)
 
 pub shifted-requires-clause-x : goal.shifted-requires-clause-x
 shifted-requires-clause-x t c = c.in_ok-x-in-Shifted.ensures.walked.carries.operand
@@ -109,28 +85,13 @@ pub returns-in_err-y-in-Binary-clause-grows : goal.returns-in_err-y-in-Binary-cl
 returns-in_err-y-in-Binary-clause-grows t c = then_grows c.walk-in-Binary.ensures.grows c.walk-in-Binary-2.ensures.grows
 
 pub returns-in_err-binary-in-Binary-clause-grows : goal.returns-in_err-binary-in-Binary-clause-grows
-returns-in_err-binary-in-Binary-clause-grows t c = then_grows (then_grows c.walk-in-Binary.ensures.grows c.walk-in-Binary-2.ensures.grows) c.binary.ensures.grows
+returns-in_err-binary-in-Binary-clause-grows t c = then_grows (then_grows c.walk-in-Binary.ensures.grows c.walk-in-Binary-2.ensures.grows) c.in_err-binary-in-Binary.ensures
 
 pub returns-in_ok-binary-in-Binary-clause-grows : goal.returns-in_ok-binary-in-Binary-clause-grows
-returns-in_ok-binary-in-Binary-clause-grows t c = then_grows (then_grows c.walk-in-Binary.ensures.grows c.walk-in-Binary-2.ensures.grows) c.binary.ensures.grows
-
-pub binary-requires-clause-x : goal.binary-requires-clause-x
-binary-requires-clause-x t c = operand_later _ _ _ c.walk-in-Binary-2.ensures.grows c.in_ok-x-in-Binary.ensures.walked.carries.operand
-
-pub binary-requires-clause-y : goal.binary-requires-clause-y
-binary-requires-clause-y t c = c.in_ok-y-in-Binary.ensures.walked.carries.operand
-
-pub binary-requires-clause-takes : goal.binary-requires-clause-takes
-binary-requires-clause-takes t c = (binary_takes _ _ _ _ _ c.requires.part _ _ _ _ _ _ (binary_tree _ _ _ _ _ _ _ _ c.in-Binary.is c.deref-in-Binary.ensures c.deref-right.ensures) c.in_ok-x-in-Binary.ensures.walked.read c.in_ok-x-in-Binary.ensures.walked.carries.is c.in_ok-y-in-Binary.ensures.walked.carries.is).0
-
-pub binary-requires-clause-common : goal.binary-requires-clause-common
-binary-requires-clause-common t c = (binary_takes _ _ _ _ _ c.requires.part _ _ _ _ _ _ (binary_tree _ _ _ _ _ _ _ _ c.in-Binary.is c.deref-in-Binary.ensures c.deref-right.ensures) c.in_ok-x-in-Binary.ensures.walked.read c.in_ok-x-in-Binary.ensures.walked.carries.is c.in_ok-y-in-Binary.ensures.walked.carries.is).1
-
-pub binary-requires-clause-ty : goal.binary-requires-clause-ty
-binary-requires-clause-ty t c = (binary_takes _ _ _ _ _ c.requires.part _ _ _ _ _ _ (binary_tree _ _ _ _ _ _ _ _ c.in-Binary.is c.deref-in-Binary.ensures c.deref-right.ensures) c.in_ok-x-in-Binary.ensures.walked.read c.in_ok-x-in-Binary.ensures.walked.carries.is c.in_ok-y-in-Binary.ensures.walked.carries.is).2
+returns-in_ok-binary-in-Binary-clause-grows t c = then_grows (then_grows c.walk-in-Binary.ensures.grows c.walk-in-Binary-2.ensures.grows) c.in_ok-binary-in-Binary.ensures.grows
 
 pub returns-in_ok-binary-in-Binary-clause-walked : goal.returns-in_ok-binary-in-Binary-clause-walked
-returns-in_ok-binary-in-Binary-clause-walked t c = rw c.placed-in-Binary.ensures (binary_walked _ _ _ _ _ _ _ _ c.in_ok-x-in-Binary.x c.in_ok-y-in-Binary.y _ _ _ _ (binary_tree _ _ _ _ _ _ _ _ c.in-Binary.is c.deref-in-Binary.ensures c.deref-right.ensures) c.walk-in-Binary-2.ensures.grows.includes c.binary.ensures.grows.includes c.in_ok-x-in-Binary.ensures.walked c.in_ok-y-in-Binary.ensures.walked c.in_ok-binary-in-Binary.ensures.value c.in_ok-binary-in-Binary.ensures.made)
+returns-in_ok-binary-in-Binary-clause-walked t c = rw c.placed-in-Binary.ensures (binary_walked _ _ _ _ _ _ _ _ c.in_ok-x-in-Binary.x c.in_ok-y-in-Binary.y _ _ _ _ (binary_tree _ _ _ _ _ _ _ _ c.in-Binary.is c.deref-in-Binary.ensures c.deref-right.ensures) c.walk-in-Binary-2.ensures.grows.includes c.in_ok-binary-in-Binary.ensures.grows.includes c.in_ok-x-in-Binary.ensures.walked c.in_ok-y-in-Binary.ensures.walked c.in_ok-binary-in-Binary.ensures.value c.in_ok-binary-in-Binary.ensures.made)
 
 pub returns-in_err-x-in-Select-clause-grows : goal.returns-in_err-x-in-Select-clause-grows
 returns-in_err-x-in-Select-clause-grows t c = then_grows c.walk-in-Select.ensures.grows c.walk-in-Select-2.ensures.grows
@@ -139,28 +100,13 @@ pub returns-in_err-y-in-Select-clause-grows : goal.returns-in_err-y-in-Select-cl
 returns-in_err-y-in-Select-clause-grows t c = then_grows (then_grows c.walk-in-Select.ensures.grows c.walk-in-Select-2.ensures.grows) c.walk-in-Select-3.ensures.grows
 
 pub returns-in_err-choice-in-Select-clause-grows : goal.returns-in_err-choice-in-Select-clause-grows
-returns-in_err-choice-in-Select-clause-grows t c = then_grows (then_grows (then_grows c.walk-in-Select.ensures.grows c.walk-in-Select-2.ensures.grows) c.walk-in-Select-3.ensures.grows) c.choice.ensures.grows
+returns-in_err-choice-in-Select-clause-grows t c = then_grows (then_grows (then_grows c.walk-in-Select.ensures.grows c.walk-in-Select-2.ensures.grows) c.walk-in-Select-3.ensures.grows) c.in_err-choice-in-Select.ensures
 
 pub returns-in_ok-choice-in-Select-clause-grows : goal.returns-in_ok-choice-in-Select-clause-grows
-returns-in_ok-choice-in-Select-clause-grows t c = then_grows (then_grows (then_grows c.walk-in-Select.ensures.grows c.walk-in-Select-2.ensures.grows) c.walk-in-Select-3.ensures.grows) c.choice.ensures.grows
-
-pub choice-requires-clause-condition : goal.choice-requires-clause-condition
-choice-requires-clause-condition t c = operand_later _ _ _ (then_grows c.walk-in-Select-2.ensures.grows c.walk-in-Select-3.ensures.grows) c.in_ok-c-in-Select.ensures.walked.carries.operand
-
-pub choice-requires-clause-x : goal.choice-requires-clause-x
-choice-requires-clause-x t c = operand_later _ _ _ c.walk-in-Select-3.ensures.grows c.in_ok-x-in-Select.ensures.walked.carries.operand
-
-pub choice-requires-clause-y : goal.choice-requires-clause-y
-choice-requires-clause-y t c = c.in_ok-y-in-Select.ensures.walked.carries.operand
-
-pub choice-requires-clause-bit : goal.choice-requires-clause-bit
-choice-requires-clause-bit t c = condition_type _ _ _ _ _ c.requires.part _ _ _ _ (select_tree _ _ _ _ _ _ _ _ _ _ c.in-Select.is c.deref-in-Select.ensures c.deref-first.ensures c.deref-second.ensures) c.in_ok-c-in-Select.ensures.walked.carries.is
-
-pub choice-requires-clause-ty : goal.choice-requires-clause-ty
-choice-requires-clause-ty t c = select_type _ _ _ _ _ c.requires.part _ _ _ _ _ _ _ (select_tree _ _ _ _ _ _ _ _ _ _ c.in-Select.is c.deref-in-Select.ensures c.deref-first.ensures c.deref-second.ensures) c.in_ok-c-in-Select.ensures.walked.read c.in_ok-x-in-Select.ensures.walked.read c.in_ok-x-in-Select.ensures.walked.carries.is c.in_ok-y-in-Select.ensures.walked.carries.is
+returns-in_ok-choice-in-Select-clause-grows t c = then_grows (then_grows (then_grows c.walk-in-Select.ensures.grows c.walk-in-Select-2.ensures.grows) c.walk-in-Select-3.ensures.grows) c.in_ok-choice-in-Select.ensures.grows
 
 pub returns-in_ok-choice-in-Select-clause-walked : goal.returns-in_ok-choice-in-Select-clause-walked
-returns-in_ok-choice-in-Select-clause-walked t c = rw c.placed-in-Select.ensures (select_walked _ _ _ _ _ _ _ _ _ c.in_ok-c-in-Select.c c.in_ok-x-in-Select.x c.in_ok-y-in-Select.y _ _ _ _ (select_tree _ _ _ _ _ _ _ _ _ _ c.in-Select.is c.deref-in-Select.ensures c.deref-first.ensures c.deref-second.ensures) c.walk-in-Select-2.ensures.grows.includes c.walk-in-Select-3.ensures.grows.includes c.choice.ensures.grows.includes c.in_ok-c-in-Select.ensures.walked c.in_ok-x-in-Select.ensures.walked c.in_ok-y-in-Select.ensures.walked c.in_ok-choice-in-Select.ensures.value c.in_ok-choice-in-Select.ensures.made)
+returns-in_ok-choice-in-Select-clause-walked t c = rw c.placed-in-Select.ensures (select_walked _ _ _ _ _ _ _ _ _ c.in_ok-c-in-Select.c c.in_ok-x-in-Select.x c.in_ok-y-in-Select.y _ _ _ _ (select_tree _ _ _ _ _ _ _ _ _ _ c.in-Select.is c.deref-in-Select.ensures c.deref-first.ensures c.deref-second.ensures) c.walk-in-Select-2.ensures.grows.includes c.walk-in-Select-3.ensures.grows.includes c.in_ok-choice-in-Select.ensures.grows.includes c.in_ok-c-in-Select.ensures.walked c.in_ok-x-in-Select.ensures.walked c.in_ok-y-in-Select.ensures.walked c.in_ok-choice-in-Select.ensures.value c.in_ok-choice-in-Select.ensures.made)
 
 pub begins_law-requires-clause-leaves : goal.begins_law-requires-clause-leaves
 begins_law-requires-clause-leaves t c = leaves_later _ _ _ _ c.walk-in-Binary.ensures.grows c.requires.leaves
@@ -218,3 +164,40 @@ returns-in_ok-choice-in-Select-clause-folds t c h =
     let y = c.in_ok-y-in-Select.ensures.folds parts.2 in
     let all = c.in_ok-choice-in-Select.ensures.folds (bit.0, (x.0, (y.0, tt))) in
     rw c.placed-in-Select.ensures (all.0, all.1 ∙ y.1 ∙ x.1 ∙ bit.1)
+
+pub unary-requires : goal.unary-requires
+unary-requires t c = record {
+  x = c.in_ok-x-in-Unary.ensures.walked.carries.operand;
+  takes = (unary_takes _ _ _ _ _ c.requires.part _ _ _ (unary_tree _ _ _ _ _ c.in-Unary.is c.deref-in-Unary.ensures) c.in_ok-x-in-Unary.ensures.walked.carries.is).0;
+  ty = (unary_takes _ _ _ _ _ c.requires.part _ _ _ (unary_tree _ _ _ _ _ c.in-Unary.is c.deref-in-Unary.ensures) c.in_ok-x-in-Unary.ensures.walked.carries.is).1;
+}
+
+pub converted-requires : goal.converted-requires
+converted-requires t c = record {
+  x = c.in_ok-x-in-Convert.ensures.walked.carries.operand;
+  ty = convert_type _ _ _ _ _ c.requires.part _ _ _ (convert_tree _ _ _ _ _ _ c.in-Convert.is c.deref-in-Convert.ensures);
+}
+
+pub scaled-requires : goal.scaled-requires
+scaled-requires t c = record {
+  x = c.in_ok-x-in-Scale.ensures.walked.carries.operand;
+  by = (scale_takes _ _ _ _ _ c.requires.part _ _ _ _ (scale_tree _ _ _ _ _ _ c.in-Scale.is c.deref-in-Scale.ensures) c.in_ok-x-in-Scale.ensures.walked.carries.is).0;
+  ty = (scale_takes _ _ _ _ _ c.requires.part _ _ _ _ (scale_tree _ _ _ _ _ _ c.in-Scale.is c.deref-in-Scale.ensures) c.in_ok-x-in-Scale.ensures.walked.carries.is).1;
+}
+
+pub binary-requires : goal.binary-requires
+binary-requires t c = record {
+  x = operand_later _ _ _ c.walk-in-Binary-2.ensures.grows c.in_ok-x-in-Binary.ensures.walked.carries.operand;
+  y = c.in_ok-y-in-Binary.ensures.walked.carries.operand;
+  takes = (binary_takes _ _ _ _ _ c.requires.part _ _ _ _ _ _ (binary_tree _ _ _ _ _ _ _ _ c.in-Binary.is c.deref-in-Binary.ensures c.deref-right.ensures) c.in_ok-x-in-Binary.ensures.walked.read c.in_ok-x-in-Binary.ensures.walked.carries.is c.in_ok-y-in-Binary.ensures.walked.carries.is).0;
+  common = (binary_takes _ _ _ _ _ c.requires.part _ _ _ _ _ _ (binary_tree _ _ _ _ _ _ _ _ c.in-Binary.is c.deref-in-Binary.ensures c.deref-right.ensures) c.in_ok-x-in-Binary.ensures.walked.read c.in_ok-x-in-Binary.ensures.walked.carries.is c.in_ok-y-in-Binary.ensures.walked.carries.is).1;
+  ty = (binary_takes _ _ _ _ _ c.requires.part _ _ _ _ _ _ (binary_tree _ _ _ _ _ _ _ _ c.in-Binary.is c.deref-in-Binary.ensures c.deref-right.ensures) c.in_ok-x-in-Binary.ensures.walked.read c.in_ok-x-in-Binary.ensures.walked.carries.is c.in_ok-y-in-Binary.ensures.walked.carries.is).2;
+}
+
+pub choice-requires : goal.choice-requires
+choice-requires t c = record {
+  condition = record { x = operand_later _ _ _ (then_grows c.walk-in-Select-2.ensures.grows c.walk-in-Select-3.ensures.grows) c.in_ok-c-in-Select.ensures.walked.carries.operand; ty = condition_type _ _ _ _ _ c.requires.part _ _ _ _ (select_tree _ _ _ _ _ _ _ _ _ _ c.in-Select.is c.deref-in-Select.ensures c.deref-first.ensures c.deref-second.ensures) c.in_ok-c-in-Select.ensures.walked.carries.is };
+  x = operand_later _ _ _ c.walk-in-Select-3.ensures.grows c.in_ok-x-in-Select.ensures.walked.carries.operand;
+  y = c.in_ok-y-in-Select.ensures.walked.carries.operand;
+  ty = select_type _ _ _ _ _ c.requires.part _ _ _ _ _ _ _ (select_tree _ _ _ _ _ _ _ _ _ _ c.in-Select.is c.deref-in-Select.ensures c.deref-first.ensures c.deref-second.ensures) c.in_ok-c-in-Select.ensures.walked.read c.in_ok-x-in-Select.ensures.walked.read c.in_ok-x-in-Select.ensures.walked.carries.is c.in_ok-y-in-Select.ensures.walked.carries.is;
+}

@@ -10,7 +10,7 @@ pub returns-in_ok-gate-in-Zero-clause-value : goal.returns-in_ok-gate-in-Zero-cl
 returns-in_ok-gate-in-Zero-clause-value c = gate_carries c.args.b.now _ c.args.x _ _ c.args.edge c.args.bits.now c.args.k c.in-Zero.is c.bit_at.ensures c.in_ok-gate-in-Zero.ensures.value
 
 pub returns-in_ok-gate-in-Zero-clause-made : goal.returns-in_ok-gate-in-Zero-clause-made
-returns-in_ok-gate-in-Zero-clause-made c reads levels h = leaves_gate _ levels c.args.k _ (ap edge_levels c.in-Zero.is) c.bit_at.ensures c.gated.ensures.grows.includes c.in_ok-gate-in-Zero.ensures.made h
+returns-in_ok-gate-in-Zero-clause-made c reads levels h = leaves_gate _ levels c.args.k _ (ap edge_levels c.in-Zero.is) c.bit_at.ensures c.in_ok-gate-in-Zero.ensures.grows.includes c.in_ok-gate-in-Zero.ensures.made h
 
 pub returns-in-Clamp-clause-value : goal.returns-in-Clamp-clause-value
 returns-in-Clamp-clause-value c = clamped_carries _ c.args.x c.args.edge c.args.bits.now c.args.k c.in-Clamp.is c.requires.x
@@ -29,3 +29,9 @@ returns-in_ok-gate-in-Zero-clause-folds c none = absurd (unclamped c.in-Zero.is 
 
 pub returns-in-Clamp-clause-folds : goal.returns-in-Clamp-clause-folds
 returns-in-Clamp-clause-folds c none h = (h.0, refl)
+
+pub returns-in_ok-gate-in-Zero-clause-grows : goal.returns-in_ok-gate-in-Zero-clause-grows
+returns-in_ok-gate-in-Zero-clause-grows c = c.in_ok-gate-in-Zero.ensures.grows
+
+pub returns-in_err-gate-in-Zero-clause-grows : goal.returns-in_err-gate-in-Zero-clause-grows
+returns-in_err-gate-in-Zero-clause-grows c = c.in_err-gate-in-Zero.ensures

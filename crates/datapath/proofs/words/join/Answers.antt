@@ -1,9 +1,21 @@
-use Rattle.std.proofs.Common.{arith, refl}
+use Rattle.std.proofs.Common.{arith}
 use Rattle.datapath.proofs.Made.{join_operation, join_made}
-use Rattle.datapath.proofs.Growth.{signal_of, grows_itself}
-use Rattle.datapath.proofs.Over.{join_over, nothing_over}
-use Rattle.datapath.proofs.Known.{not_none}
+use Rattle.datapath.proofs.Growth.{signal_of}
+use Rattle.datapath.proofs.Over.{join_over}
+use Rattle.datapath.proofs.Composed.{known_over}
+use Rattle.datapath.proofs.Failing.{at_err}
 use Rattle.datapath.proofs.words.join.Goals as goal
+
+pub returns : goal.returns
+returns c = record {
+  grows = c.net_for.ensures.grows;
+  word = join_made _ _ _ c.args.x c.args.y _ _ c.args.high c.args.low c.atom-left.ensures c.atom-right.ensures c.requires.x c.requires.y c.net_for.ensures.grows.includes c.in_ok-net.ensures.net;
+  made = join_over _ _ _ c.args.x c.args.y _ _ c.atom-left.ensures c.atom-right.ensures c.in_ok-net.ensures.net;
+  folds = λ h. absurd (c.in-None.ensures h);
+}
+
+pub returns-in-Some : goal.returns-in-Some
+returns-in-Some c = known_over c.in-Some.ensures
 
 pub atom-left-requires : goal.atom-left-requires
 atom-left-requires c = signal_of _ _ _ c.requires.x
@@ -14,20 +26,8 @@ atom-right-requires c = signal_of _ _ _ c.requires.y
 pub net_for-requires-clause-operation : goal.net_for-requires-clause-operation
 net_for-requires-clause-operation c = join_operation _ c.args.x c.args.y _ _ c.args.high c.args.low c.atom-left.ensures c.atom-right.ensures (let some = c.requires.some in (omega (arith, some), c.requires.most)) c.requires.x c.requires.y
 
-pub returns-clause-word : goal.returns-clause-word
-returns-clause-word c = join_made _ _ _ c.args.x c.args.y _ _ c.args.high c.args.low c.atom-left.ensures c.atom-right.ensures c.requires.x c.requires.y c.net_for.ensures.grows.includes c.in_ok-net.ensures.net
+pub returns-in_err-net : goal.returns-in_err-net
+returns-in_err-net c = at_err _ _ c.from_residual.result c.from_residual.ensures.1 c.net_for.ensures.grows
 
-pub returns-clause-made : goal.returns-clause-made
-returns-clause-made c = join_over _ _ _ c.args.x c.args.y _ _ c.atom-left.ensures c.atom-right.ensures c.in_ok-net.ensures.net
-
-pub returns-in-Some-clause-grows : goal.returns-in-Some-clause-grows
-returns-in-Some-clause-grows c = grows_itself _
-
-pub returns-in-Some-clause-made : goal.returns-in-Some-clause-made
-returns-in-Some-clause-made c = nothing_over c.in-Some.ensures.made
-
-pub returns-in-Some-clause-folds : goal.returns-in-Some-clause-folds
-returns-in-Some-clause-folds c h = (c.in-Some.ensures.known, refl)
-
-pub returns-clause-folds : goal.returns-clause-folds
-returns-clause-folds c h = absurd (not_none _ c.in-None.is (c.folded_join.ensures.complete h))
+pub folded_join-requires : goal.folded_join-requires
+folded_join-requires c = c.requires
