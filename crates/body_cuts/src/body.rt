@@ -29,25 +29,18 @@ pub(crate) struct Body {
 // The limit that no body passes.
 pub(crate) const NO_LIMIT: u32 = u32::MAX;
 
-// The read as the pieces have it.
-fn seen(pieces: &Pieces<'_>, read: PixelRead) -> PixelRead {
-    if pieces.is_still {
-        return PixelRead {
-            image: read.image,
-            dx: 0,
-            dy: read.dy,
-            clamped: false,
-        };
-    }
-    read
-}
-
+// A read as the pieces have it.
 fn read_part(alloc: Global, pieces: &Pieces<'_>, read: PixelRead) -> Result<Part, OutOfMemory> {
-    let read = seen(pieces, read);
     let program = pieces.names.program;
-    let levels = read_levels(program, pieces.levels, read);
+    let seen = PixelRead {
+        image: read.image,
+        dx: if pieces.is_still { 0 } else { read.dx },
+        dy: read.dy,
+        clamped: read.clamped && !pieces.is_still,
+    };
+    let levels = read_levels(program, pieces.levels, seen);
     let name = image_name(program, read.image);
-    offset_read(alloc, name, (read.dx, read.dy), read.clamped, levels)
+    offset_read(alloc, name, (seen.dx, seen.dy), seen.clamped, levels)
 }
 
 // A read of the image that is 1.
@@ -148,14 +141,6 @@ fn part(
     finished(alloc, pieces, above, e, inner)
 }
 
-// Makes a piece of a part that the body has at two columns.
-fn share_part<'a>(alloc: Global, pieces: &mut Pieces<'a>, e: &'a Term) -> Result<(), OutOfMemory> {
-    pieces.is_still = true;
-    let piece = part(alloc, pieces, Above::Nothing, e)?;
-    pieces.is_still = false;
-    share(alloc, pieces, e, piece)
-}
-
 // Makes pieces of the parts that the body has at two columns.
 fn share_repeated<'a>(
     alloc: Global,
@@ -165,7 +150,10 @@ fn share_repeated<'a>(
     let classes = classes_of(alloc, pieces.names.program, e)?;
     for class in &classes {
         if class.is_repeated {
-            share_part(alloc, pieces, class.part)?;
+            pieces.is_still = true;
+            let piece = part(alloc, pieces, Above::Nothing, class.part)?;
+            pieces.is_still = false;
+            share(alloc, pieces, class.part, piece)?;
         }
     }
     Ok(())
@@ -183,12 +171,6 @@ fn made(alloc: Global, mut pieces: Pieces<'_>, e: &Term) -> Result<Body, OutOfMe
     })
 }
 
-// Whether a body as it is written passes the limit, or has a product that is divided.
-fn is_cut(names: &Names<'_>, levels: &[u32], e: &Term, limit: u32) -> bool {
-    let whole = levels_of(names.program, levels, e).unwrap_or(0);
-    limit < whole || has_divided(limit, e)
-}
-
 // The body of the definition with this name. If it passes the limit, its expanded body is cut. If a piece would have no name, it is whole. The levels are those of the bodies before.
 pub(crate) fn cut_body<'a>(
     alloc: Global,
@@ -199,7 +181,8 @@ pub(crate) fn cut_body<'a>(
     limit: u32,
 ) -> Result<Body, OutOfMemory> {
     let mut is_unnamed = false;
-    if is_cut(names, levels, &expanded.written, limit) {
+    let written = levels_of(names.program, levels, &expanded.written).unwrap_or(0);
+    if limit < written || has_divided(limit, &expanded.written) {
         let mut pieces = Pieces::new(alloc, names, levels, stem, limit);
         share_repeated(alloc, &mut pieces, &expanded.body)?;
         let cut = made(alloc, pieces, &expanded.body)?;

@@ -143,13 +143,6 @@ pub(crate) fn make_draft(
     Ok(draft)
 }
 
-// Adds the inline image that is 1.
-fn push_frame(to: &mut Text, name: &[u8]) {
-    to.push(b"inline let ");
-    to.push(name);
-    push_body(to, b"1");
-}
-
 // The text of the program with the definitions of a draft, after `head`.
 pub(crate) fn program_text(
     alloc: Global,
@@ -162,7 +155,9 @@ pub(crate) fn program_text(
     push_size(&mut text, names.program.size());
     push_inputs(&mut text, names.program);
     if draft.tests_frame {
-        push_frame(&mut text, &names.frame);
+        text.push(b"inline let ");
+        text.push(&names.frame);
+        push_body(&mut text, b"1");
     }
     text.append(&draft.text);
     push_outputs(&mut text, names.program);

@@ -109,24 +109,15 @@ fn known_piece<'a>(items: &'a [Piece], text: &[u8]) -> Option<&'a Piece> {
     None
 }
 
-// Adds a piece, and returns the read of it.
-fn add_piece(
-    alloc: Global,
-    pieces: &mut Pieces<'_>,
-    name: Vec<u8>,
-    text: Vec<u8>,
-) -> Result<Part, OutOfMemory> {
-    let read = piece_read(alloc, &name)?;
-    pieces.items.push(Piece { name, text })?;
-    Ok(read)
-}
-
 // Makes a part a piece, and returns the read of it.
 fn make_piece(alloc: Global, pieces: &mut Pieces<'_>, part: Part) -> Result<Part, OutOfMemory> {
-    match next_name(alloc, pieces)? {
-        Some(name) => add_piece(alloc, pieces, name, part.text),
-        None => Ok(part),
-    }
+    let Some(name) = next_name(alloc, pieces)? else {
+        return Ok(part);
+    };
+    let read = piece_read(alloc, &name)?;
+    let text = part.text;
+    pieces.items.push(Piece { name, text })?;
+    Ok(read)
 }
 
 // The part, or the read of its piece if it must be one. A body gets no more pieces after too many, since it is then not used.

@@ -117,17 +117,6 @@ fn multiplied(alloc: Global, a: &Factor, b: &Factor) -> Result<Part, OutOfMemory
     Ok(raised(part, 1))
 }
 
-// The product of the high half in its place, above the low bits.
-fn placed(
-    alloc: Global,
-    pieces: &mut Pieces<'_>,
-    high: Part,
-    bits: u8,
-) -> Result<Part, OutOfMemory> {
-    let high = cut(alloc, pieces, Above::Operator(1), high)?;
-    scaled(alloc, Scaling::ShiftLeft, high, u64::from(bits))
-}
-
 // The products of the low and of the high half, added, in the type of the whole product.
 fn joined(
     alloc: Global,
@@ -137,7 +126,8 @@ fn joined(
     ty: Ty,
 ) -> Result<Part, OutOfMemory> {
     let low = cut(alloc, pieces, Above::Operator(1), low)?;
-    let high = placed(alloc, pieces, high, bits)?;
+    let high = cut(alloc, pieces, Above::Operator(1), high)?;
+    let high = scaled(alloc, Scaling::ShiftLeft, high, u64::from(bits))?;
     let sum = binary(alloc, Binary::Add, low, high)?;
     converted(alloc, Conversion::Cast, raised(sum, 1), ty)
 }

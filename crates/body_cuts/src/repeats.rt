@@ -146,13 +146,6 @@ impl<'a> Classes<'a> {
         None
     }
 
-    // Notes that the part at this place also has reads that are moved by these columns.
-    fn repeat(&mut self, place: usize, dx: i32) {
-        if let Some(class) = self.parts.get_mut(place) {
-            class.is_repeated = class.is_repeated || class.dx != dx;
-        }
-    }
-
     // Adds the first part with this mark and form.
     fn begin(&mut self, mark: u64, part: &'a Term, dx: i32) -> Result<(), OutOfMemory> {
         let before = self.last.insert(mark, self.parts.len())?;
@@ -170,7 +163,9 @@ impl<'a> Classes<'a> {
         let mark = mark_of(part);
         match self.find(mark, part) {
             Some(place) => {
-                self.repeat(place, dx);
+                if let Some(class) = self.parts.get_mut(place) {
+                    class.is_repeated = class.is_repeated || class.dx != dx;
+                }
                 Ok(())
             }
             None => self.begin(mark, part, dx),

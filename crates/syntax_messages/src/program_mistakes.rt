@@ -6,6 +6,8 @@ use dk_lexer::Symbol;
 use expected_tokens::TokenClass;
 use source_words::Keyword;
 
+const SIZE: TokenClass = TokenClass::Keyword(Keyword::Size);
+
 // Whether a definition or an output begins with the class, or the text ends.
 fn begins_item(class: TokenClass) -> bool {
     match class {
@@ -34,24 +36,15 @@ fn is_end(class: TokenClass) -> bool {
     matches!(class, TokenClass::Keyword(Keyword::End))
 }
 
-// Whether the size could stand there, which a text begins with.
-fn expects_size(a: &Around<'_>) -> bool {
-    a.expects_only(TokenClass::Keyword(Keyword::Size))
-}
-
-fn is_size(class: TokenClass) -> bool {
-    matches!(class, TokenClass::Keyword(Keyword::Size))
-}
-
 /// The mistake at the front of a text that has none of its tokens, or only its size.
 pub(crate) fn front_mistake(a: &Around<'_>) -> Option<Mistake> {
-    if expects_size(a) {
+    if a.expects_only(SIZE) {
         return match a.found {
             TokenClass::EndOfText => Some(Mistake::EMPTY),
             _ => None,
         };
     }
-    if is_size(a.second) || is_size(a.first) {
+    if a.second == SIZE || a.first == SIZE {
         return Some(Mistake::SIZE_SIDES);
     }
     None
@@ -109,7 +102,7 @@ fn item_mistake(a: &Around<'_>) -> Option<Mistake> {
 
 /// The mistake of the items of a program, after its front.
 pub(crate) fn program_mistake(a: &Around<'_>) -> Option<Mistake> {
-    if expects_size(a) {
+    if a.expects_only(SIZE) {
         return Some(Mistake::NO_SIZE);
     }
     if let Some(mistake) = end_mistake(a) {

@@ -8,6 +8,9 @@ use expected_tokens::TokenClass;
 use source_words::{Keyword, find_keyword};
 use std::alloc::Global;
 
+// Types of fractions in other languages.
+const FRACTIONS: &str = "float double half real fixed";
+
 // Whether the faulty token is this symbol right after that one.
 fn is_pair(a: &Around<'_>, before: Symbol, symbol: Symbol) -> bool {
     match (a.first, a.found) {
@@ -111,16 +114,11 @@ fn upper_case(alloc: Global, a: &Around<'_>) -> Option<Mistake> {
     }
 }
 
-// Whether the word is a type of fractions in another language.
-fn is_fraction(word: &[u8]) -> bool {
-    is_among("float double half real fixed", word)
-}
-
 // What is no type, where a type must be.
 fn type_word(a: &Around<'_>) -> Option<Mistake> {
     if !a.expects_only(TokenClass::Type) {
         None
-    } else if is_fraction(a.bytes()) {
+    } else if is_among(FRACTIONS, a.bytes()) {
         Some(Mistake::FRACTIONS)
     } else {
         Some(Mistake::NoType)
