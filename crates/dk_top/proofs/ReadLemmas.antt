@@ -1,5 +1,5 @@
 -- What is read of a command's files.
-use Rattle.std.proofs.Common.{◌≡◌, ℕ, ◌<◌, ◌≤◌, List, length, map, Option, None, Some, Result, Ok, Err, IfOk, IfErr, IfSome, sym, ap, ◌∙◌, subst, arith}
+use Rattle.std.proofs.Common.{◌≡◌, ℕ, ◌<◌, ◌≤◌, List, length, map, Option, None, Some, Result, Ok, Err, IfOk, IfErr, IfSome, OnOk, sym, ap, ◌∙◌, subst, arith}
 use Rattle.std.proofs.lemmas.List.{length-map}
 use Rattle.dk_base.specs.Types.{width_of}
 use Rattle.dk_types.specs.Typed.{Typing}
@@ -153,6 +153,12 @@ told_first (Some f) name P Q h = h.0
 pub told_second : (told : Option Files) (name : List ℕ) (P Q : List ℕ → Type 0) → IfSome told (λ f. P (bytes_of f name) × Q (bytes_of f name)) → IfSome told (λ f. Q (bytes_of f name))
 told_second None name P Q h = tt
 told_second (Some f) name P Q h = h.1
+
+-- the same of a fact without the value
+pub good_told : {A E : Type 0} (r : Result A E) (told : Option Files) (file name : List ℕ) (Q : List ℕ → Type 0) → IfSome told (λ f. file ≡ bytes_of f name) → OnOk r (Q file) → OnOk r (IfSome told (λ f. Q (bytes_of f name)))
+good_told (Ok a) None file name Q is h = tt
+good_told (Ok a) (Some f) file name Q is h = subst Q is h
+good_told (Err e) told file name Q is h = tt
 
 -- what is read is good
 pub read_good : (told : Option Files) (terms : Terms) (program image : List ℕ) (ir : Program) (rounds : List Round) → IfSome told (λ f. IsRead terms (bytes_of f program) (bytes_of f image) ir rounds) → IfSome told (λ f. IsGoodPair terms (bytes_of f program) (bytes_of f image))

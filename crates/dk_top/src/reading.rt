@@ -102,6 +102,9 @@ pub fn read_images<D: Desk>(
     ensures only { OpensOnly InSlot.Image (D.outside desk.old) (D.outside desk.new) }
     ensures cause { TellsRead result (D.outside desk.old) (D.outside desk.new) }
 {
-    let file = read_file(alloc, desk, name, most)?;
+    let file = match read_file(alloc, desk, name, most) {
+        Ok(file) => file,
+        Err(ending) => return Err(ending),
+    };
     read_frames(alloc, ir, &file)
 }

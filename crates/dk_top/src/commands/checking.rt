@@ -51,7 +51,10 @@ fn read_front<D: Desk>(alloc: Global, desk: &mut D, name: &str) -> Result<Front,
     ensures only { OpensOnly InSlot.Program (D.outside desk.old) (D.outside desk.new) }
     ensures cause { TellsRead result (D.outside desk.old) (D.outside desk.new) }
 {
-    let text = read_text(alloc, desk, name)?;
+    let text = match read_text(alloc, desk, name) {
+        Ok(text) => text,
+        Err(ending) => return Err(ending),
+    };
     accepted(alloc, &text)
 }
 
@@ -120,7 +123,10 @@ fn read_report<D: Desk>(
     ensures only { OpensOnly InSlot.Image (D.outside desk.old) (D.outside desk.new) }
     ensures cause { TellsRead result (D.outside desk.old) (D.outside desk.new) }
 {
-    let report = report_bytes(alloc, desk, name)?;
+    let report = match report_bytes(alloc, desk, name) {
+        Ok(report) => report,
+        Err(ending) => return Err(ending),
+    };
     judged(alloc, front, &report)
 }
 
@@ -148,9 +154,14 @@ fn read_claim<D: Desk>(
     ensures only { ReadsInputs (D.outside desk.old) (D.outside desk.new) }
     ensures cause { TellsRead result (D.outside desk.old) (D.outside desk.new) }
 {
-    let front = read_front(alloc, desk, program)?;
-    let claim = read_report(alloc, desk, &front, report)?;
-    Ok(claim)
+    let front = match read_front(alloc, desk, program) {
+        Ok(front) => front,
+        Err(ending) => return Err(ending),
+    };
+    match read_report(alloc, desk, &front, report) {
+        Ok(claim) => Ok(claim),
+        Err(ending) => Err(ending),
+    }
 }
 
 /// Judges a report from any source. If it holds, its claim is written to Report.

@@ -75,9 +75,14 @@ fn read_given<D: Desk>(alloc: Global, desk: &mut D, files: &FileNames) -> Result
     ensures only { ReadsInputs (D.outside desk.old) (D.outside desk.new) }
     ensures cause { TellsRead result (D.outside desk.old) (D.outside desk.new) }
 {
-    let ir = read_with(alloc, desk, files.program, files)?;
-    let rounds = read_images(alloc, desk, &ir, files.image, Some(MAX_PGM_BYTES as usize))?;
-    Ok(Given { ir, rounds })
+    let ir = match read_with(alloc, desk, files.program, files) {
+        Ok(ir) => ir,
+        Err(ending) => return Err(ending),
+    };
+    match read_images(alloc, desk, &ir, files.image, Some(MAX_PGM_BYTES as usize)) {
+        Ok(rounds) => Ok(Given { ir, rounds }),
+        Err(ending) => Err(ending),
+    }
 }
 
 // The output file by the program's meaning.

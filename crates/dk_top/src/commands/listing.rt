@@ -38,7 +38,10 @@ impl OfText for NetsWords<'_> {
             age: self.age,
             block: self.block,
         };
-        let circuit = compiled(alloc, text, options)?;
+        let circuit = match compiled(alloc, text, options) {
+            Ok(circuit) => circuit,
+            Err(ending) => return Err(ending),
+        };
         let nets = NamedNets {
             ir: &circuit.ir,
             plan: &circuit.plan,

@@ -17,11 +17,11 @@ ghost use Rattle.dk_types.specs.Typed.{Typing};
 ghost use Rattle.dk_compile.specs.Fronts.{IsForm};
 ghost use Rattle.dk_top.specs.Reading.{ReadsAndNotes, OfFile, AreRead, IsSourceEnding, Stops, TellsRead, NotesOnly};
 
-use crate::commands::compiling::compiled;
+use crate::commands::compiling::read_compiled;
 use crate::commands::streaming::{is_one_port, run_streamed};
 use crate::files::write_file;
 use crate::laws::notes_agree_law;
-use crate::reading::{read_images, read_text};
+use crate::reading::read_images;
 use crate::work::Work;
 use cycle_sim::Fill;
 use dk_base::{FrameSize, OutOfMemory};
@@ -133,8 +133,10 @@ fn read_machine<D: Desk>(
         age,
         block: None,
     };
-    let text = read_text(alloc, desk, program)?;
-    let compiled = compiled(alloc, &text, options)?;
+    let compiled = match read_compiled(alloc, desk, program, options) {
+        Ok(compiled) => compiled,
+        Err(ending) => return Err(ending),
+    };
     match read_again(alloc, &compiled) {
         Ok(module) => Ok(Machine { compiled, module }),
         Err(_) => Err(Ending::Memory),
@@ -171,7 +173,10 @@ fn ran<D: Desk>(
     ensures cause { TellsRead result (D.outside desk.old) (D.outside desk.new) }
 {
     one_at_age_law();
-    let rounds = read_images(alloc, desk, &compiled.ir, image, None)?;
+    let rounds = match read_images(alloc, desk, &compiled.ir, image, None) {
+        Ok(rounds) => rounds,
+        Err(ending) => return Err(ending),
+    };
     match clocked(alloc, desk, compiled, module, &rounds) {
         Ok(output) => Ok(output),
         Err(_) => Err(Ending::Memory),

@@ -155,7 +155,10 @@ fn read_images<D: Desk>(
     ensures only { OpensOnly InSlot.Image (D.outside desk.old) (D.outside desk.new) }
     ensures cause { TellsRead result (D.outside desk.old) (D.outside desk.new) }
 {
-    let file = read_file(alloc, desk, name, Some(MAX_PGM_BYTES as usize))?;
+    let file = match read_file(alloc, desk, name, Some(MAX_PGM_BYTES as usize)) {
+        Ok(file) => file,
+        Err(ending) => return Err(ending),
+    };
     rounds_for(alloc, module, &file)
 }
 
@@ -195,9 +198,14 @@ pub fn read_all<D: Desk>(
     ensures only { ReadsInputs (D.outside desk.old) (D.outside desk.new) }
     ensures cause { TellsRead result (D.outside desk.old) (D.outside desk.new) }
 {
-    let module = read_module(alloc, desk, verilog, hold)?;
-    let input = read_images(alloc, desk, &module, image)?;
-    Ok(SimInput { module, input })
+    let module = match read_module(alloc, desk, verilog, hold) {
+        Ok(module) => module,
+        Err(ending) => return Err(ending),
+    };
+    match read_images(alloc, desk, &module, image) {
+        Ok(input) => Ok(SimInput { module, input }),
+        Err(ending) => Err(ending),
+    }
 }
 
 // What registers and arrays hold at power-up, by the command's word.

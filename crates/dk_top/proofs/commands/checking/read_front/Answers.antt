@@ -5,8 +5,8 @@ use Rattle.dk_compile.specs.Sources.{IsSourceFault}
 use Rattle.dk_top.proofs.LongLemmas.{short_text}
 use Rattle.dk_top.proofs.commands.checking.read_front.Goals as goal
 
-pub returns-in_err-text-clause-fault : goal.returns-in_err-text-clause-fault
-returns-in_err-text-clause-fault g c = unread_source _ c.args.name.now c.in_err-text.field c.in_err-text.ensures.fault
+pub returns-in-Err-clause-fault : goal.returns-in-Err-clause-fault
+returns-in-Err-clause-fault g c = unread_source _ c.args.name.now c.in-Err.ending c.in-Err.ensures.fault
 
 pub returns-clause-left : goal.returns-clause-left
 returns-clause-left g c =
