@@ -4,7 +4,7 @@ ghost use Rattle.std.specs.Prelude.{◌≡◌, ◌≢◌, ℕ, ◌^◌, ◌<◌,
 ghost use Rattle.lane_rows.specs.Values.{value_at, row_bits, values_of, InLanes};
 ghost use Rattle.batch_rows.specs.Code.{CanRun, IsStretch};
 ghost use Rattle.batch_rows.specs.Uses.{AreFirstUses};
-ghost use Rattle.batch_guess.specs.Table.{HaveSpares, IsTable};
+ghost use Rattle.batch_guess.specs.Table.{HaveSpares, CanPut, SlotIsPut, IsTable};
 
 use batch_rows::{Code, Instruction, Rooms, run_code};
 use lane_rows::{Lane, Row, Size, lane_in, put_row, trim_row};
@@ -33,15 +33,9 @@ fn mask_of(widths: &[Width], slot: usize) -> u64
 // Puts a spare row into a slot, without the bits above its width. What the slot had becomes the spare row.
 #[tactic(auto, using(crate::proofs::Tables::trimmed_fits))]
 fn put_spare<L: Lane>(widths: &[Width], rows: &mut [Row], slot: usize, spare: &mut Vec<L>)
-    requires slot { slot < length rows.old }
-    requires lanes { InLanes widths.now rows.old }
-    requires long { length spare.old.items ≡ length (slice_index_or (values_of rows.old) slot []) }
+    requires { CanPut widths.now slot (length spare.old.items) rows.old }
     ensures spare { length spare.new.items ≡ length spare.old.items }
-    ensures bits { map row_bits rows.new ≡ map row_bits rows.old }
-    ensures count { length rows.new ≡ length rows.old }
-    ensures long { length (slice_index_or (values_of rows.new) slot []) ≡ length (slice_index_or (values_of rows.old) slot []) }
-    ensures fit { (t : ℕ) → t < length (slice_index_or (values_of rows.old) slot []) → value_at (values_of rows.new) t slot < 2 ^ slice_index widths.now slot }
-    ensures others { (n : ℕ) → n ≢ slot → slice_index_or (values_of rows.new) n [] ≡ slice_index_or (values_of rows.old) n [] }
+    ensures rows { SlotIsPut widths.now slot rows.old rows.new }
 {
     trim_row(spare, mask_of(widths, slot));
     put_row(rows, slot, spare);
@@ -49,17 +43,11 @@ fn put_spare<L: Lane>(widths: &[Width], rows: &mut [Row], slot: usize, spare: &m
 
 // Puts the spare row of its lane into a slot that no instruction that is run uses.
 fn put_free(widths: &[Width], table: &mut Table, slot: usize)
-    requires slot { slot < length table.old.rows.items }
-    requires lanes { InLanes widths.now table.old.rows.items }
-    requires long { length (slice_index_or (values_of table.old.rows.items) slot []) ≡ length table.old.room.items }
+    requires can { CanPut widths.now slot (length table.old.room.items) table.old.rows.items }
     requires spares { HaveSpares table.old (length table.old.room.items) }
     ensures spares { HaveSpares table.new (length table.old.room.items) }
     ensures rooms { table.new.rooms ≡ table.old.rooms }
-    ensures bits { map row_bits table.new.rows.items ≡ map row_bits table.old.rows.items }
-    ensures count { length table.new.rows.items ≡ length table.old.rows.items }
-    ensures long { length (slice_index_or (values_of table.new.rows.items) slot []) ≡ length (slice_index_or (values_of table.old.rows.items) slot []) }
-    ensures fit { (t : ℕ) → t < length (slice_index_or (values_of table.old.rows.items) slot []) → value_at (values_of table.new.rows.items) t slot < 2 ^ slice_index widths.now slot }
-    ensures others { (n : ℕ) → n ≢ slot → slice_index_or (values_of table.new.rows.items) n [] ≡ slice_index_or (values_of table.old.rows.items) n [] }
+    ensures rows { SlotIsPut widths.now slot table.old.rows.items table.new.rows.items }
 {
     match lane_in(&table.rows, slot) {
         Size::Narrow => put_spare(widths, &mut table.rows, slot, &mut table.narrow),

@@ -11,5 +11,5 @@ returns-clause-table c =
     let inside : c.args.slot < length rows = omega (arith, c.if-slot-len.false, c.len.ensures) in
     let count : length (values_of rows) ≡ length rows = length-map rows row_values in
     let long : length (slice_index_or (values_of rows) c.args.slot []) ≡ length c.args.table.now.room.items = c.requires.table.ran.rows.long c.args.slot (omega (arith, inside, count)) in
-    table_free c.args.widths.now c.args.code.now c.args.uses.now c.requires.uses (length c.args.table.now.room.items) c.args.done c.args.slot (c.is_free.ensures c.if-not-is_free.false) c.args.table.now c.put_free.new.table inside c.put_free.ensures.count c.put_free.ensures.bits (c.put_free.ensures.long ∙ long)
-    (λ t l. c.put_free.ensures.fit t (omega (arith, l, long))) c.put_free.ensures.others c.put_free.ensures.rooms c.put_free.ensures.spares c.requires.table
+    table_free c.args.widths.now c.args.code.now c.args.uses.now c.requires.uses (length c.args.table.now.room.items) c.args.done c.args.slot (c.is_free.ensures c.if-not-is_free.false) c.args.table.now c.put_free.new.table inside c.put_free.ensures.rows.count c.put_free.ensures.rows.bits (c.put_free.ensures.rows.long ∙ long)
+    (λ t l. c.put_free.ensures.rows.fit t (omega (arith, l, long))) c.put_free.ensures.rows.others c.put_free.ensures.rooms c.put_free.ensures.spares c.requires.table
