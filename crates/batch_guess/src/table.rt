@@ -1,7 +1,6 @@
 // The rows of all slots of a code.
 
-ghost use Rattle.std.specs.Prelude.{◌≡◌, ◌≢◌, ℕ, ◌^◌, ◌<◌, ◌≤◌, [], length, map, slice_index, slice_index_or, IsTrue};
-ghost use Rattle.lane_rows.specs.Values.{value_at, row_bits, values_of, InLanes};
+ghost use Rattle.std.specs.Prelude.{◌≡◌, ◌^◌, ◌<◌, ◌≤◌, length, slice_index, IsTrue};
 ghost use Rattle.batch_rows.specs.Code.{CanRun, IsStretch};
 ghost use Rattle.batch_rows.specs.Uses.{AreFirstUses};
 ghost use Rattle.batch_guess.specs.Table.{HaveSpares, CanPut, SlotIsPut, IsTable};

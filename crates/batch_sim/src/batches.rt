@@ -1,6 +1,6 @@
 // Batches of clocks.
 
-ghost use Rattle.std.specs.Prelude.{◌≡◌, ℕ, Err, List, ◌*◌, length, All, IfOk, OnOk, IfErr, OnErr};
+ghost use Rattle.std.specs.Prelude.{◌≡◌, ℕ, Err, ◌*◌, length, All, IfOk, OnOk, IfErr, OnErr};
 ghost use Rattle.wiring.specs.Snapshot.{Snapshot, Fit, HasOneSnapshot, HasOneNext, HasPlaces, FitsContents};
 ghost use Rattle.wiring.specs.Clock.{Clock};
 ghost use Rattle.cycle_sim.specs.Ports.{din_widths, AreShown};

@@ -1,6 +1,6 @@
 //! The clocks of a line, and what the output shows in each of them.
 
-ghost use Rattle.std.specs.Prelude.{◌≡◌, ℕ, ◌+◌, ◌*◌, ◌≤◌, [], ◌∷◌, true, length, All, IfOk, IfErr, map, replicate, take};
+ghost use Rattle.std.specs.Prelude.{◌≡◌, ℕ, ◌+◌, ◌*◌, ◌≤◌, [], ◌∷◌, true, length, IfOk, IfErr, map, replicate, take};
 ghost use Rattle.std.specs.List.{range_with_len};
 ghost use Rattle.wiring.specs.Snapshot.{Snapshot, Fit};
 ghost use Rattle.wiring.specs.Clock.{given, Steps, Stops};

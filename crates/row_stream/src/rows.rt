@@ -3,10 +3,8 @@
 ghost use Rattle.std.specs.Prelude.{◌≡◌, ℕ, ◌*◌, ◌^◌, ◌<◌, ◌≤◌, Ok, Err, OnOk, IfErr, length, slice_index, take};
 ghost use Rattle.std.specs.Io.KnownBytes.{prepend_known};
 ghost use Rattle.dk_base.specs.declared.TheConstants.{MAX_SIDE};
-ghost use Rattle.dk_base.specs.FrameSizes.{size_of};
 ghost use Rattle.pgm_codec.specs.Rasters.{JudgesRow, row_length};
 ghost use Rattle.row_stream.specs.Formats.{kind_of};
-ghost use Rattle.row_stream.specs.Heads.{FitsHeader};
 ghost use Rattle.row_stream.specs.Rows.{CanReadRow, IsRowFault};
 ghost use Rattle.row_stream.specs.RowReading.{TakesRow, Streams, EndsRow, EndsRows};
 ghost use Rattle.row_stream.specs.Calls.{OnlyReads, ReadsAndWrites};

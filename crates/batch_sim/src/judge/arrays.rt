@@ -1,10 +1,9 @@
 // The arrays over the clocks of a batch.
 
-ghost use Rattle.std.specs.Prelude.{◌≡◌, ℕ, ◌≢◌, ◌<◌, ◌≤◌, List, [], length, map, slice_index, slice_index_or, slice_get, slice_set, Some, IsTrue, IsFalse};
-ghost use Rattle.cycle_sim.specs.Slots.{words_of};
-ghost use Rattle.lane_rows.specs.Values.{numbers_in, row_values, values_of, value_at};
-ghost use Rattle.batch_rows.specs.Rights.{HasRow, HaveRoom, IsAtomRow};
-ghost use Rattle.lane_rows.specs.Words.{words_after, IsReadUpTo, AreInside};
+ghost use Rattle.std.specs.Prelude.{◌≡◌, ℕ, ◌≢◌, ◌<◌, ◌≤◌, List, length, map, slice_index, slice_set, Some, IsTrue, IsFalse};
+ghost use Rattle.lane_rows.specs.Values.{numbers_in, values_of};
+ghost use Rattle.batch_rows.specs.Rights.{HasRow};
+ghost use Rattle.lane_rows.specs.Words.{AreInside};
 ghost use Rattle.batch_code.specs.Rows.{words_put, KeepsArray};
 ghost use Rattle.batch_sim.specs.Arrays.{HaveCount, AreNoted, AreAccessNumbers, IsPassed, IsArrayRoom, WasLost, PutsInside, HaveAccessRows, TakesBack};
 

@@ -1,4 +1,4 @@
-use Rattle.std.proofs.Common.{rules, ◌≤◌, ◌≡◌, ◌∷◌, length, [], refl, ap, subst, sym, arith, map, take, All}
+use Rattle.std.proofs.Common.{rules, ◌≤◌, ◌≡◌, length, refl, ap, subst, sym, arith, map, take, All}
 use Rattle.std.proofs.lemmas.Result.{on_ok_weaker, on_err_weaker}
 use Rattle.wiring.specs.Netlist.{Netlist}
 use Rattle.cycle_sim.specs.Ports.{din_widths}

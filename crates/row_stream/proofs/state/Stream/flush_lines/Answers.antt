@@ -1,4 +1,4 @@
-use Rattle.std.proofs.Common.{rules, refl, ◌∙◌, ◌∷◌, ◌+◌, ◌*◌, ◌≤◌, ℕ, [], subst, sym, ap, arith, map, take, All}
+use Rattle.std.proofs.Common.{rules, refl, ◌∙◌, ◌∷◌, ◌+◌, ◌*◌, ◌≤◌, ℕ, [], subst, sym, arith, map, take, All}
 use Rattle.wiring.specs.Snapshot.{Fit}
 use Rattle.cycle_sim.specs.Ports.{din_widths}
 use Rattle.row_stream.specs.Formats.{kind_of}

@@ -1,4 +1,4 @@
-use Rattle.std.proofs.Common.{◌≤◌, arith, subst, sym}
+use Rattle.std.proofs.Common.{◌≤◌, subst, sym}
 use Rattle.dk_base.specs.declared.TheConstants.{MAX_SIDE}
 use Rattle.row_stream.specs.Formats.{kind_of}
 use Rattle.row_stream.specs.RowReading.{EndsRows}

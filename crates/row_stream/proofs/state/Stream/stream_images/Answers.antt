@@ -1,8 +1,7 @@
-use Rattle.std.proofs.Common.{rules, refl, ap, ◌∙◌, ◌≡◌, ◌<◌, ◌+◌, Ok, IfSome, subst, sym, arith}
+use Rattle.std.proofs.Common.{rules, refl, ap, ◌≡◌, ◌<◌, ◌+◌, Ok, IfSome, subst, sym, arith}
 use Rattle.dk_base.specs.declared.TheConstants.{MAX_FILE_IMAGES}
 use Rattle.dk_base.specs.FrameSizes.{size_of}
 use Rattle.dk_desk.specs.Outside.{Input}
-use Rattle.row_stream.specs.declared.faults.StreamFault.{StreamFault}
 use Rattle.row_stream.specs.Formats.{kind_of}
 use Rattle.row_stream.specs.Heads.{TakesHead, TakesFitting, FitsHeader}
 use Rattle.row_stream.specs.RowReading.{Streams}

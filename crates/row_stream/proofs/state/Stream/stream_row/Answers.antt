@@ -1,12 +1,9 @@
-use Rattle.std.proofs.Common.{rules, refl, ◌≡◌, ◌∷◌, [], ◌∙◌, ap, sym, arith, length, subst, ℕ, ◌≤◌}
-use Rattle.std.proofs.Common.{List}
+use Rattle.std.proofs.Common.{rules, refl, ◌≡◌, ◌∙◌, sym, arith, subst, ◌≤◌}
 use Rattle.dk_base.specs.declared.TheConstants.{MAX_SIDE}
-use Rattle.row_stream.specs.States.{IsReady}
 use Rattle.row_stream.specs.Formats.{kind_of}
 use Rattle.row_stream.specs.RowReading.{EndsRow}
-use Rattle.row_stream.specs.States.{row_of, Keeps}
 use Rattle.row_stream.proofs.RowLemmas.{streams_one, fails_row, one_row, misses_row}
-use Rattle.row_stream.proofs.Keeping.{passed, if_err, keeps_then}
+use Rattle.row_stream.proofs.Keeping.{if_err}
 use Rattle.row_stream.proofs.state.Stream.stream_row.Goals as goal
 
 pub read_front-requires : goal.read_front-requires

@@ -1,4 +1,4 @@
-use Rattle.std.proofs.Common.{rules, refl, subst, sym, ◌∙◌, ◌≤◌, arith}
+use Rattle.std.proofs.Common.{rules, refl, subst, sym, ◌≤◌, arith}
 use Rattle.dk_base.specs.declared.TheConstants.{MAX_SIDE}
 use Rattle.row_stream.specs.Formats.{kind_of}
 use Rattle.row_stream.specs.Heads.{FitsHeader}
