@@ -13,7 +13,7 @@ use Rattle.dk_compile.specs.Limits.{IsAcceptedAt}
 use Rattle.dk_compile.specs.Compiled.{IsPlanned, HasLeastBits}
 use Rattle.dk_compile.specs.Judged.{HasForm}
 use Rattle.dk_compile.specs.Narrowed.{AreNoWider, IsOneNarrower, HasNoMoreBits, IsNarrowed, NarrowsForm}
-use Rattle.dk_compile.proofs.Same.{same_of_forms, keeps_itself}
+use Rattle.dk_compile.proofs.Same.{same_of_forms}
 
 -- of each image by its number
 pub no_wider_of : (old new : List Ty) → ((k : ℕ) (t : Ty) → slice_get old k ≡ Some t → HasNoMoreBits old new k) → AreNoWider old new
@@ -53,7 +53,21 @@ narrowed_of source text shown p old has narrows same = subst (λ (t : List ℕ).
 -- a source that is returned
 unchanged : (source : List ℕ) (p : Typing) → IsAccepted source p → IsNarrowed source source
 unchanged source p accepted = record {
-  keeps = keeps_itself source p accepted;
+  keeps = record {
+    old = p;
+    new = p;
+    from = accepted.program;
+    accepted = accepted;
+    same = record {
+      size = refl;
+      input_types = refl;
+      input_names = refl;
+      count = refl;
+      names = λ k lt. refl;
+      types = λ k lt. refl;
+      pictures = λ round is k lt x y. refl;
+    };
+  };
   no_wider = λ k t at. (t, at, (let same : width_of t ≤ width_of t = omega arith in same));
   narrower = inl refl;
 }

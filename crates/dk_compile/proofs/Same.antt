@@ -118,7 +118,7 @@ pub accepted_by : (text shown : List ℕ) (q : Typing) (old : Program) → Shows
 accepted_by text shown q old shows same = subst (λ (t : List ℕ). IsAccepted t q) same shows.has.accepted
 
 -- a text that is accepted keeps its own pictures
-pub keeps_itself : (source : List ℕ) (p : Typing) → IsAccepted source p → KeepsPictures source source
+keeps_itself : (source : List ℕ) (p : Typing) → IsAccepted source p → KeepsPictures source source
 keeps_itself source p accepted = record {
   old = p;
   new = p;
