@@ -168,7 +168,7 @@ usage: $called COMMAND [OPTION..] WORD..
   sim VERILOG CLOCKS IN OUT    clock a Verilog text over images
   trace VERILOG CLOCKS IN VCD  clock a Verilog text, write a value change dump
   cut N PROG OUT               divide bodies of more than N levels of operators
-  narrow PROG OUT              store images in fewer bits, if their values allow it
+  narrow PROG OUT              store images in fewer bits, where values allow it
   widen P PROG OUT             write a program of P pixels a clock
   explain PROG                 print the faults of a program, with what helps
   make N                       make a program from a number, and run it
