@@ -338,7 +338,7 @@ def headline(modules, types, places):
     """The theorem of the compiler with its own definitions, those of their file."""
     _, law = clauses(f"{TOP}/crates/dk_top/src/laws.rt", "correct_law")
     own = modules["Rattle.dk_compile.specs.Correct"].order
-    out = ["## The theorem", "", "If the call ends with Done, the text that `compile` leaves in OUT denotes one module. This module has the program's ports. From any contents it shows the program's pictures, and it stands still while `en` is 0. Its arrays have the fewest bits of all causal schedules.",
+    out = ["## The theorem", "", "If the call ends with Done, the text that `compile` leaves in OUT denotes one module. This module has the program's ports. From any contents it shows the program's pictures, and after a reset nothing changes in a clock with `en` 0. Its arrays have the fewest bits of all causal schedules.",
            "", f"`correct_law`, [{law.module.path}](../{law.module.path}):", "", "```", law.text, "```", "",
            f"`IsCompiledText` is what the clauses of `dk_main` state of OUT after Done of `compile`. The definitions of the theorem, [{own[0].module.path}](../{own[0].module.path}):"]
     for item in reversed(own):
