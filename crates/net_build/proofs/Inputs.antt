@@ -6,7 +6,7 @@ use Rattle.wiring.specs.Netlist.{Netlist, net_width, first_din}
 use Rattle.wiring.specs.Rules.{ArePorts, IsPortWidth}
 use Rattle.net_build.specs.Draft.{IsNet, IsDraft}
 
-input_net : (b : Netlist) (k : ℕ) → k < length b.inputs → IsNet b (Input k)
+pub input_net : (b : Netlist) (k : ℕ) → k < length b.inputs → IsNet b (Input k)
 input_net b k within = record { declared = within; no_output = λ j e. (let f : Input k ≡ Output j = e in cc) }
 
 pub rst_net : (b : Netlist) → IsDraft b → IsNet b (Input 0)

@@ -52,6 +52,14 @@ pub record IsControlled (b : Netlist) (copies : List ℕ) : Type 0 where
   pub there : All (λ r. r < length b.regs) copies
   pub each : All (TakesControl b copies) b.updates
 
+-- registers that take only control nets still do
+abbrev pub KeepsControl : (new old : Netlist) → Type 0
+KeepsControl new old = (copies : List ℕ) → IsControlled old copies → IsControlled new copies
+
+-- a net is made of whatever the reads of this right side are made of
+abbrev pub IsMadeOfReads : Netlist → Right Net ℕ → Net → Type 0
+IsMadeOfReads b r n = (base : Holder → Bool) → All (IsMadeOf b base) (right_reads r) → IsMadeOf b base (OfNet n)
+
 -- no register except these depends on a din
 abbrev pub FedOnly : Netlist → (copies : List ℕ) → Type 0
 FedOnly m copies = (r : ℕ) → IsFed m (OfNet (Reg r)) → Contains copies r

@@ -62,6 +62,10 @@ HasWire b k r = slice_get b.assigns k ≡ Some (record { target = Wire k; right 
 abbrev pub with_wire : Netlist → Right Net ℕ → Netlist
 with_wire b r = record b { wires = b.wires ++ width_of b r ∷ []; assigns = b.assigns ++ (record { target = Wire (length b.wires); right = r }) ∷ [] }
 
+-- the wire of this right side is added, or there already
+abbrev pub SharesOrAdds : (new old : Netlist) → Right Net ℕ → Type 0
+SharesOrAdds new old r = (new ≡ old) ⊎ (new ≡ with_wire old r)
+
 -- the new draft has more wires, and nothing else
 pub record AddsWires (new old : Netlist) : Type 0 where
   pub regs : new.regs ≡ old.regs

@@ -1,21 +1,15 @@
 // Counters of clocks.
 
-ghost use Rattle.std.specs.Prelude.{suc, ◌≡◌, ◌+◌, ◌%◌, min, ◌<◌, ◌==◌, ◌^◌, true, if◌then◌else◌, [], ◌∷◌, ◌++◌, length, IfOk, OnOk};
-ghost use Rattle.dk_base.specs.Numbers.{bit_count};
+ghost use Rattle.std.specs.Prelude.{suc, ◌≡◌, ◌+◌, ◌%◌, min, ◌<◌, ◌^◌, if◌then◌else◌, IfOk, OnOk};
 ghost use Rattle.wiring.specs.declared.right.Atom.TheVariants as atom;
-ghost use Rattle.wiring.specs.Netlist.{net_width, reset_net};
+ghost use Rattle.wiring.specs.Netlist.{net_width};
 ghost use Rattle.wiring.specs.Sizes.{IsWidth};
-ghost use Rattle.wiring.specs.Snapshot.{net_value};
-ghost use Rattle.wiring.specs.Clock.{bit};
-ghost use Rattle.net_build.specs.Includes.{Includes};
 ghost use Rattle.net_build.specs.Draft.{IsNet};
 ghost use Rattle.wiring.specs.declared.netlist.Holder.TheVariants.{OfNet};
-ghost use Rattle.net_build.specs.Runs.{StaysBelow};
-ghost use Rattle.net_build.specs.Control.{is_control, IsControl};
-ghost use Rattle.net_build.specs.Depth.{IsWithin, IsOver};
-ghost use Rattle.net_build.specs.Logic.{AddsLogic, Computes};
+ghost use Rattle.net_build.specs.Control.{IsControl};
+ghost use Rattle.net_build.specs.Logic.{AddsLogic};
 ghost use Rattle.net_build.specs.Registers.{register_bits, count_bits};
-ghost use Rattle.net_build.specs.Counters.{after, reached, control_nets, unless_held, taken, loaded, IsLoaded, Counts, IsBehindReset, AddsRegister, AddsControl, Starts, IsIndexNet, Cycles};
+ghost use Rattle.net_build.specs.Counters.{reached, unless_held, taken, loaded, AreChoices, AreRegisterIndices, IsChoice, IsEnding, IsFollowing, IsLoaded, IsRange, IsRegisterCount, MakesCounter, MakesCycle, AddsControl, Starts};
 
 use crate::builder::Builder;
 use crate::gates::{driven, gate, number};
@@ -25,7 +19,8 @@ use wiring::{Atom, Net, Operator, Right};
 // What follows the last number.
 fn over(at: Net, bits: u8, wraps: bool) -> Atom<Net>
     requires { IsWidth bits }
-    ensures { result ≡ (if wraps then atom.Constant (record { width = bits; value = 0 }) else atom.Net at) }
+    ensures { result ≡ (if wraps then atom.Constant
+        (record { width = bits; value = 0 }) else atom.Net at) }
 {
     if wraps {
         return number(bits, 0);
@@ -50,12 +45,10 @@ pub fn count(
 ) -> Result<Counted, OutOfMemory>
     requires at { IsNet b.old at }
     requires width { net_width b.old at ≡ bits }
-    requires bits { IsWidth bits }
-    requires last { last < 2 ^ bits }
-    requires needed { bits ≡ bit_count last }
+    requires range { IsRange bits last }
     ensures logic { AddsLogic b.new b.old }
-    ensures ending { IfOk result (λ c. Computes b.new b.old (at ∷ []) 1 (λ s. bit (net_value s at == last)) c.ending) }
-    ensures next { IfOk result (λ c. Computes b.new b.old (at ∷ []) bits (λ s. after wraps last (net_value s at)) c.next) }
+    ensures ending { IfOk result (λ c. IsEnding b.new b.old at last c.ending) }
+    ensures next { IfOk result (λ c. IsFollowing b.new b.old at bits last wraps c.next) }
 {
     let ending = gate(
         b,
@@ -74,14 +67,9 @@ pub fn count(
 
 /// What is next, or in a held clock what is now.
 pub fn unless_held(b: &mut Builder, now: Net, next: Net, bits: u8) -> Result<Net, OutOfMemory>
-    requires now { IsNet b.old now }
-    requires next { IsNet b.old next }
-    requires now_width { net_width b.old now ≡ bits }
-    requires next_width { net_width b.old next ≡ bits }
-    requires bits { IsWidth bits }
+    requires { AreChoices b.old bits now next }
     ensures logic { AddsLogic b.new b.old }
-    ensures net { IfOk result (Computes b.new b.old (control_nets b.old.enable ++ now ∷ (next ∷ []))
-        bits (λ s. unless_held b.old.enable (net_value s now) (net_value s next) s)) }
+    ensures net { IfOk result (IsChoice b.new b.old now next bits (unless_held b.old.enable)) }
 {
     if b.has_en() {
         let en = b.en();
@@ -96,14 +84,9 @@ pub fn unless_held(b: &mut Builder, now: Net, next: Net, bits: u8) -> Result<Net
 
 /// What is next, or in a held clock what is now. In a reset clock it is what is next, with `en` 0 too.
 pub fn loaded(b: &mut Builder, now: Net, next: Net, bits: u8) -> Result<Net, OutOfMemory>
-    requires now { IsNet b.old now }
-    requires next { IsNet b.old next }
-    requires now_width { net_width b.old now ≡ bits }
-    requires next_width { net_width b.old next ≡ bits }
-    requires bits { IsWidth bits }
+    requires { AreChoices b.old bits now next }
     ensures logic { AddsLogic b.new b.old }
-    ensures net { IfOk result (Computes b.new b.old (control_nets b.old.enable ++ now ∷ (next ∷ []))
-        bits (λ s. loaded b.old.enable (net_value s now) (net_value s next) s)) }
+    ensures net { IfOk result (IsChoice b.new b.old now next bits (loaded b.old.enable)) }
     ensures right { IfOk result (IsLoaded b.new now next) }
 {
     if b.has_en() {
@@ -137,8 +120,7 @@ pub fn register_value(
     requires bits { IsWidth bits }
     requires first { first < 2 ^ bits }
     ensures logic { AddsLogic b.new b.old }
-    ensures net { IfOk result (Computes b.new b.old (control_nets b.old.enable ++ now ∷ (next ∷ []))
-        bits (λ s. taken b.old.enable first (net_value s now) (net_value s next) s)) }
+    ensures net { IfOk result (IsChoice b.new b.old now next bits (taken b.old.enable first)) }
 {
     let going = unless_held(b, now, next, bits)?;
     let reset = b.rst();
@@ -166,15 +148,10 @@ fn registered(
 ) -> Result<Numbered, OutOfMemory>
     requires register { IsNet b.old register }
     requires width { net_width b.old register ≡ bits }
-    requires bits { IsWidth bits }
-    requires last { last < 2 ^ bits }
-    requires needed { bits ≡ bit_count last }
+    requires range { IsRange bits last }
     ensures logic { AddsLogic b.new b.old }
-    ensures index { IfOk result (λ c. Computes b.new b.old (control_nets b.old.enable ++ register ∷ [])
-        bits (λ s. if net_value s reset_net == 1 then 0 else net_value s register) c.index) }
-    ensures depth { IfOk result (λ c. IsOver b.new b.old 1 (control_nets b.old.enable ++ register ∷ []) c.index) }
-    ensures next { IfOk result (λ c. Computes b.new b.old (control_nets b.old.enable ++ register ∷ []) bits
-        (λ s. taken b.old.enable 0 (net_value s c.index) (after wraps last (net_value s c.index)) s) c.next) }
+    ensures count { IfOk result
+        (λ c. IsRegisterCount b.new b.old register bits last wraps c.index c.next) }
 {
     let reset = b.rst();
     let index = gate(
@@ -188,13 +165,7 @@ fn registered(
 
 // A counter up to `last`, which then begins again or stays.
 fn counter_of(b: &mut Builder, last: u64, wraps: bool) -> Result<Net, OutOfMemory>
-    ensures includes { Includes b.new b.old }
-    ensures adds { OnOk result (AddsRegister b.new b.old (bit_count last)) }
-    ensures net { IfOk result (IsBehindReset b.new (length b.old.regs)) }
-    ensures width { IfOk result (λ n. net_width b.new n ≡ bit_count last) }
-    ensures counts { IfOk result (Counts b.new (reached wraps last)) }
-    ensures below { IfOk result (StaysBelow b.new (suc last)) }
-    ensures depth { IfOk result (λ n. IsWithin b.new (is_control b.new.enable) 1 (OfNet n)) }
+    ensures { MakesCounter b.new b.old result (reached wraps last) last }
 {
     let bits = bits_for(last);
     let register = b.reg(bits)?;
@@ -205,13 +176,7 @@ fn counter_of(b: &mut Builder, last: u64, wraps: bool) -> Result<Net, OutOfMemor
 
 /// A net that counts clocks from 0 to `last`, and then from 0 again: the number of the counted clocks since a reset, modulo `last` and one. It is 0 in a reset clock, and does not change in held clocks. It has one register, and no path of assigns to it has more than one operator.
 pub fn counter(b: &mut Builder, last: u64) -> Result<Net, OutOfMemory>
-    ensures includes { Includes b.new b.old }
-    ensures adds { OnOk result (AddsRegister b.new b.old (bit_count last)) }
-    ensures net { IfOk result (IsBehindReset b.new (length b.old.regs)) }
-    ensures width { IfOk result (λ n. net_width b.new n ≡ bit_count last) }
-    ensures counts { IfOk result (Counts b.new (λ t. t % suc last)) }
-    ensures below { IfOk result (StaysBelow b.new (suc last)) }
-    ensures depth { IfOk result (λ n. IsWithin b.new (is_control b.new.enable) 1 (OfNet n)) }
+    ensures { MakesCounter b.new b.old result (λ t. t % suc last) last }
 {
     let net = counter_of(b, last, true)?;
     Ok(net)
@@ -219,13 +184,7 @@ pub fn counter(b: &mut Builder, last: u64) -> Result<Net, OutOfMemory>
 
 /// A net that counts clocks from 0 to `last`, and stays there. Else it is as `counter`.
 pub fn counter_up_to(b: &mut Builder, last: u64) -> Result<Net, OutOfMemory>
-    ensures includes { Includes b.new b.old }
-    ensures adds { OnOk result (AddsRegister b.new b.old (bit_count last)) }
-    ensures net { IfOk result (IsBehindReset b.new (length b.old.regs)) }
-    ensures width { IfOk result (λ n. net_width b.new n ≡ bit_count last) }
-    ensures counts { IfOk result (Counts b.new (λ t. min t last)) }
-    ensures below { IfOk result (StaysBelow b.new (suc last)) }
-    ensures depth { IfOk result (λ n. IsWithin b.new (is_control b.new.enable) 1 (OfNet n)) }
+    ensures { MakesCounter b.new b.old result (λ t. min t last) last }
 {
     let net = counter_of(b, last, false)?;
     Ok(net)
@@ -243,15 +202,10 @@ struct CycleValues {
 fn cycled(b: &mut Builder, register: Net, bits: u8, last: u64) -> Result<CycleValues, OutOfMemory>
     requires register { IsNet b.old register }
     requires width { net_width b.old register ≡ bits }
-    requires bits { IsWidth bits }
-    requires last { last < 2 ^ bits }
-    requires needed { bits ≡ bit_count last }
+    requires range { IsRange bits last }
     ensures logic { AddsLogic b.new b.old }
-    ensures now { IfOk result (λ c. Computes b.new b.old (control_nets b.old.enable ++ register ∷ [])
-        bits (λ s. if net_value s reset_net == 1 then last else net_value s register) c.now) }
-    ensures next { IfOk result (λ c. Computes b.new b.old (control_nets b.old.enable ++ register ∷ []) bits (λ s. after true last (net_value s c.now)) c.next) }
-    ensures taken { IfOk result (λ c. Computes b.new b.old (control_nets b.old.enable ++ register ∷ [])
-        bits (λ s. loaded b.old.enable (net_value s register) (net_value s c.next) s) c.taken) }
+    ensures indices { IfOk result
+        (λ c. AreRegisterIndices b.new b.old register bits last c.now c.next c.taken) }
 {
     let reset = b.rst();
     let now = gate(
@@ -276,11 +230,7 @@ pub struct Indices {
 
 /// The indices 0 to `last` in a cycle, a step in each counted clock. In a reset clock `now` is `last` and `next` is 0, so the two differ in each clock if `last` is above 0. It has one register, which is still in held clocks.
 pub fn cycle(b: &mut Builder, last: u64) -> Result<Indices, OutOfMemory>
-    ensures includes { Includes b.new b.old }
-    ensures adds { OnOk result (AddsRegister b.new b.old (bit_count last)) }
-    ensures now { IfOk result (λ c. IsIndexNet b.new (length b.old.regs) (bit_count last) last c.now) }
-    ensures next { IfOk result (λ c. IsIndexNet b.new (length b.old.regs) (bit_count last) last c.next) }
-    ensures cycles { IfOk result (λ c. Cycles b.new last c.now c.next) }
+    ensures { MakesCycle b.new b.old result last }
 {
     let bits = bits_for(last);
     let register = b.reg(bits)?;

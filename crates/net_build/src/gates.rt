@@ -37,7 +37,8 @@ pub fn driven(b: &mut Builder, right: Right<Net, usize>) -> Result<Net, OutOfMem
     requires no_array { right_accesses right ≡ [] }
     ensures logic { AddsLogic b.new b.old }
     ensures gate { IfOk result (IsGate b.new b.old right) }
-    ensures made { IfOk result (λ n. Contains b.new.assigns (record { target = n; right = right })) }
+    ensures made { IfOk result (λ n. Contains b.new.assigns
+        (record { target = n; right = right })) }
 {
     let net = b.op(right)?;
     Ok(net)

@@ -1,13 +1,14 @@
 // Netlists that grow.
 
-ghost use Rattle.std.specs.Prelude.{position, ℕ, None, Some, slice_get, ◌≡◌, ◌≢◌, ◌⊎◌, ◌+◌, ◌<◌, ◌≤◌, ◌++◌, ◌∷◌, [], length, map, IfNone, IfOk, OnOk, OnErr};
+ghost use Rattle.std.specs.Prelude.{position, ℕ, None, Some, slice_get, ◌≡◌, ◌≢◌, ◌+◌, ◌<◌, ◌≤◌, ◌++◌, ◌∷◌, [], length, map, IfNone, IfOk, OnOk, OnErr};
 ghost use Rattle.std.specs.Vec.{vec_capacity, vec_len};
 ghost use Rattle.indexmap.specs.IndexSet.{spare};
 ghost use Rattle.wiring.specs.declared.netlist.Assign.{Assign};
 ghost use Rattle.wiring.specs.declared.netlist.Update.TheVariants.{Set, Put};
 ghost use Rattle.wiring.specs.declared.right.Atom.TheVariants as atom;
 ghost use Rattle.wiring.specs.Netlist.{netlist_of};
-ghost use Rattle.net_build.specs.Draft.{IsDraft, IsOperation, HasWire, with_wire, with_reg, with_array, number};
+ghost use Rattle.net_build.specs.States.{state_count};
+ghost use Rattle.net_build.specs.Draft.{IsDraft, IsOperation, HasWire, SharesOrAdds, with_wire, with_reg, with_array, number};
 
 use crate::size::right_size;
 use dk_base::OutOfMemory;
@@ -37,7 +38,8 @@ fn push_wire(wiring: &mut Netlist, right: &Right<Net, usize>) -> Result<(), OutO
 // The place of a key.
 fn place_of<T: Eq + Hash + Drop>(known: &IndexSet<T>, key: &T) -> Option<usize>
     ensures found { result ≡ position (T.eq key.now) known.now.keys }
-    ensures absent { IfNone result ((k : ℕ) (x : T) → slice_get known.now.keys k ≡ Some x → x ≢ key.now) }
+    ensures absent { IfNone result ((k : ℕ) (x : T) → slice_get known.now.keys k ≡ Some x
+        → x ≢ key.now) }
 {
     known.get_index_of(key)
 }
@@ -71,7 +73,8 @@ pub fn wire_of(
     ensures draft { IsDraft (netlist_of wiring.new) }
     ensures known { known.new.keys ≡ map (λ (a : Assign). a.right) wiring.new.assigns.items }
     ensures wire { IfOk result (λ k. HasWire (netlist_of wiring.new) k right.now) }
-    ensures ok { OnOk result ((netlist_of wiring.new ≡ netlist_of wiring.old) ⊎ (netlist_of wiring.new ≡ with_wire (netlist_of wiring.old) right.now)) }
+    ensures ok { OnOk result (SharesOrAdds (netlist_of wiring.new)
+        (netlist_of wiring.old) right.now) }
     ensures err { OnErr result (netlist_of wiring.new ≡ netlist_of wiring.old) }
     ensures room { vec_capacity wiring.new.updates ≡ vec_capacity wiring.old.updates }
 {
@@ -99,11 +102,11 @@ fn make_room(updates: &mut Vec<Update>, states: usize) -> Result<(), OutOfMemory
 
 // Adds a register, with room for its update.
 pub fn add_reg(wiring: &mut Netlist, width: Width) -> Result<usize, OutOfMemory>
-    requires { length wiring.old.regs.items + length wiring.old.arrays.items ≤ vec_capacity wiring.old.updates }
+    requires { state_count (netlist_of wiring.old) ≤ vec_capacity wiring.old.updates }
     ensures number { IfOk result (λ k. k ≡ length wiring.old.regs.items) }
     ensures ok { OnOk result (netlist_of wiring.new ≡ with_reg (netlist_of wiring.old) width) }
     ensures err { OnErr result (netlist_of wiring.new ≡ netlist_of wiring.old) }
-    ensures room { length wiring.new.regs.items + length wiring.new.arrays.items ≤ vec_capacity wiring.new.updates }
+    ensures room { state_count (netlist_of wiring.new) ≤ vec_capacity wiring.new.updates }
 {
     make_room(&mut wiring.updates, wiring.regs.len() + wiring.arrays.len())?;
     let k = wiring.regs.len();
@@ -113,11 +116,11 @@ pub fn add_reg(wiring: &mut Netlist, width: Width) -> Result<usize, OutOfMemory>
 
 // Adds an array, with room for its update.
 pub fn add_array(wiring: &mut Netlist, shape: Shape) -> Result<usize, OutOfMemory>
-    requires { length wiring.old.regs.items + length wiring.old.arrays.items ≤ vec_capacity wiring.old.updates }
+    requires { state_count (netlist_of wiring.old) ≤ vec_capacity wiring.old.updates }
     ensures number { IfOk result (λ x. x ≡ length wiring.old.arrays.items) }
     ensures ok { OnOk result (netlist_of wiring.new ≡ with_array (netlist_of wiring.old) shape) }
     ensures err { OnErr result (netlist_of wiring.new ≡ netlist_of wiring.old) }
-    ensures room { length wiring.new.regs.items + length wiring.new.arrays.items ≤ vec_capacity wiring.new.updates }
+    ensures room { state_count (netlist_of wiring.new) ≤ vec_capacity wiring.new.updates }
 {
     make_room(&mut wiring.updates, wiring.regs.len() + wiring.arrays.len())?;
     let x = wiring.arrays.len();
@@ -128,7 +131,8 @@ pub fn add_array(wiring: &mut Netlist, shape: Shape) -> Result<usize, OutOfMemor
 // Adds the update of a register, for which there is room.
 pub fn add_set(updates: &mut Vec<Update>, reg: Net, value: Net)
     requires { vec_len updates.old < vec_capacity updates.old }
-    ensures items { updates.new.items ≡ updates.old.items ++ Set (number reg) (atom.Net value) ∷ [] }
+    ensures items { updates.new.items ≡ updates.old.items ++ Set (number reg)
+        (atom.Net value) ∷ [] }
     ensures room { vec_capacity updates.old ≤ vec_capacity updates.new }
 {
     let _ = updates.push(Update::Set(number_of(reg), Atom::Net(value)));
@@ -137,7 +141,8 @@ pub fn add_set(updates: &mut Vec<Update>, reg: Net, value: Net)
 // Adds the update of an array, for which there is room.
 pub fn add_put(updates: &mut Vec<Update>, array: usize, index: Net, value: Net)
     requires { vec_len updates.old < vec_capacity updates.old }
-    ensures items { updates.new.items ≡ updates.old.items ++ Put array (atom.Net index) (atom.Net value) ∷ [] }
+    ensures items { updates.new.items ≡ updates.old.items ++ Put array (atom.Net index)
+        (atom.Net value) ∷ [] }
     ensures room { vec_capacity updates.old ≤ vec_capacity updates.new }
 {
     let _ = updates.push(Update::Put(array, Atom::Net(index), Atom::Net(value)));

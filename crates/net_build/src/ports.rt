@@ -33,7 +33,8 @@ fn push_widths(widths: &mut Vec<Width>, dins: &[u8]) -> Result<(), OutOfMemory>
 // Those of `rst`, of `en` where there is one, and of each `din`.
 pub fn input_widths(alloc: Global, enable: bool, dins: &[u8]) -> Result<Vec<Width>, OutOfMemory>
     requires { All IsPortWidth dins.now }
-    ensures { IfOk result (λ widths. widths.items ≡ 1 ∷ (if enable then 1 ∷ dins.now else dins.now)) }
+    ensures { IfOk result (λ widths. widths.items
+        ≡ 1 ∷ (if enable then 1 ∷ dins.now else dins.now)) }
 {
     let mut widths = control_widths(alloc, enable)?;
     push_widths(&mut widths, dins)?;

@@ -2,7 +2,8 @@
 
 ghost use Rattle.std.specs.Prelude.{◌≡◌, slice_index};
 ghost use Rattle.wiring.specs.Netlist.{netlist_of, net_width, word_width};
-ghost use Rattle.wiring.specs.Rights.{atom_width, right_width, operator_width};
+ghost use Rattle.wiring.specs.Rights.{atom_width, operator_width};
+ghost use Rattle.net_build.specs.Draft.{width_of};
 ghost use Rattle.wiring.specs.Sizes.{IsWidth};
 
 use wiring::{Atom, Net, Netlist, Operator, Right, Width};
@@ -57,8 +58,8 @@ fn operator_bits(operator: Operator, bits: u8) -> u8
 
 // The width of a right side.
 pub fn right_size(wiring: &Netlist, right: &Right<Net, usize>) -> Width
-    requires { IsWidth (right_width (net_width (netlist_of wiring.now)) (word_width (netlist_of wiring.now)) right.now) }
-    ensures { result ≡ right_width (net_width (netlist_of wiring.now)) (word_width (netlist_of wiring.now)) right.now }
+    requires { IsWidth (width_of (netlist_of wiring.now) right.now) }
+    ensures { result ≡ width_of (netlist_of wiring.now) right.now }
 {
     let bits = match right {
         Right::Copy(a) | Right::Not(a) => atom_bits(wiring, a),

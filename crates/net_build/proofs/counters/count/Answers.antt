@@ -9,19 +9,19 @@ use Rattle.net_build.proofs.Parts.{includes_on}
 use Rattle.net_build.proofs.counters.count.Goals as goal
 
 pub number-requires-2-clause-fits : goal.number-requires-2-clause-fits
-number-requires-2-clause-fits c = one_fits c.args.bits c.requires.bits.0
+number-requires-2-clause-fits c = one_fits c.args.bits c.requires.range.wide.0
 
 pub gate-requires-2-clause-operation : goal.gate-requires-2-clause-operation
 gate-requires-2-clause-operation c =
-    binary_operation c.gate.new.b Add (atom.Net c.args.at) c.number-2.result c.args.bits (λ e. cc) c.requires.bits (old_operand c.gate.new.b c.args.b.now c.args.at c.args.bits c.gate.ensures.logic.includes c.requires.at c.requires.width)
-    (number_operand c.gate.new.b c.number-2.result c.args.bits 1 c.number-2.ensures c.requires.bits (one_fits c.args.bits c.requires.bits.0))
+    binary_operation c.gate.new.b Add (atom.Net c.args.at) c.number-2.result c.args.bits (λ e. cc) c.requires.range.wide (old_operand c.gate.new.b c.args.b.now c.args.at c.args.bits c.gate.ensures.logic.includes c.requires.at c.requires.width)
+    (number_operand c.gate.new.b c.number-2.result c.args.bits 1 c.number-2.ensures c.requires.range.wide (one_fits c.args.bits c.requires.range.wide.0))
 
 pub gate-requires-3-clause-operation : goal.gate-requires-3-clause-operation
 gate-requires-3-clause-operation c =
     let first = c.in_ok-ending.ensures.gate in
     let second = c.in_ok-more.ensures.gate in
-    choose_operation c.gate-2.new.b (atom.Net c.in_ok-ending.ending) c.over.result (atom.Net c.in_ok-more.more) c.args.bits c.requires.bits (old_operand c.gate-2.new.b c.gate.new.b c.in_ok-ending.ending 1 c.gate-2.ensures.logic.includes first.net first.width)
-    (over_operand c.gate-2.new.b c.args.wraps c.args.bits c.args.at c.over.result c.over.ensures c.requires.bits (old_operand c.gate-2.new.b c.args.b.now c.args.at c.args.bits (includes_on _ _ _ c.gate.ensures.logic.includes c.gate-2.ensures.logic.includes) c.requires.at c.requires.width))
+    choose_operation c.gate-2.new.b (atom.Net c.in_ok-ending.ending) c.over.result (atom.Net c.in_ok-more.more) c.args.bits c.requires.range.wide (old_operand c.gate-2.new.b c.gate.new.b c.in_ok-ending.ending 1 c.gate-2.ensures.logic.includes first.net first.width)
+    (over_operand c.gate-2.new.b c.args.wraps c.args.bits c.args.at c.over.result c.over.ensures c.requires.range.wide (old_operand c.gate-2.new.b c.args.b.now c.args.at c.args.bits (includes_on _ _ _ c.gate.ensures.logic.includes c.gate-2.ensures.logic.includes) c.requires.at c.requires.width))
     (net_operand c.gate-2.new.b c.in_ok-more.more c.args.bits second.net (second.width ∙ width_more c.gate.new.b c.args.b.now c.gate.ensures.logic.includes c.args.at c.requires.at.declared ∙ c.requires.width))
 
 pub returns-in_err-more-clause-logic : goal.returns-in_err-more-clause-logic
@@ -36,9 +36,9 @@ returns-clause-logic c = logic_on _ _ _ c.gate.ensures.logic (logic_on _ _ _ c.g
 pub returns-clause-next : goal.returns-clause-next
 returns-clause-next c =
     next_computes c.args.b.now c.gate.new.b c.gate-2.new.b c.gate-3.new.b c.args.at c.args.bits c.args.last c.args.wraps c.number.result c.number-2.result c.over.result c.in_ok-ending.ending c.in_ok-more.more c.in_ok-next.next
-    c.gate.ensures.logic.includes c.gate-2.ensures.logic.includes c.gate-3.ensures.logic.includes c.requires.at c.requires.width c.requires.bits c.requires.last c.requires.needed c.number.ensures c.number-2.ensures c.over.ensures c.in_ok-ending.ensures.gate c.in_ok-more.ensures.gate c.in_ok-next.ensures.gate
+    c.gate.ensures.logic.includes c.gate-2.ensures.logic.includes c.gate-3.ensures.logic.includes c.requires.at c.requires.width c.requires.range.wide c.requires.range.fits c.requires.range.needed c.number.ensures c.number-2.ensures c.over.ensures c.in_ok-ending.ensures.gate c.in_ok-more.ensures.gate c.in_ok-next.ensures.gate
 
 pub returns-clause-ending : goal.returns-clause-ending
 returns-clause-ending c =
     ending_computes c.args.b.now c.gate.new.b c.gate-2.new.b c.gate-3.new.b c.args.at c.args.bits c.args.last c.args.wraps c.number.result c.number-2.result c.over.result c.in_ok-ending.ending c.in_ok-more.more c.in_ok-next.next
-    c.gate.ensures.logic.includes c.gate-2.ensures.logic.includes c.gate-3.ensures.logic.includes c.requires.at c.requires.width c.requires.bits c.requires.last c.requires.needed c.number.ensures c.number-2.ensures c.over.ensures c.in_ok-ending.ensures.gate c.in_ok-more.ensures.gate
+    c.gate.ensures.logic.includes c.gate-2.ensures.logic.includes c.gate-3.ensures.logic.includes c.requires.at c.requires.width c.requires.range.wide c.requires.range.fits c.requires.range.needed c.number.ensures c.number-2.ensures c.over.ensures c.in_ok-ending.ensures.gate c.in_ok-more.ensures.gate

@@ -29,17 +29,12 @@ returns-in_err-next-clause-logic c = logic_on _ _ _ c.gate.ensures.logic (logic_
 pub returns-clause-logic : goal.returns-clause-logic
 returns-clause-logic c = logic_on _ _ _ c.gate.ensures.logic (logic_on _ _ _ c.count.ensures.logic c.register_value.ensures.logic)
 
-pub returns-clause-index : goal.returns-clause-index
-returns-clause-index c =
-    computes_more c.register_value.new.b c.gate.new.b c.args.b.now _ c.args.bits _ c.in_ok-index.index (includes_on _ _ _ c.count.ensures.logic.includes c.register_value.ensures.logic.includes)
-    (index_is c.args.b.now c.gate.new.b c.args.register c.rst-reset.result c.in_ok-index.index c.number.result c.args.bits 0 c.gate.ensures.logic.includes c.rst-reset.ensures.reset c.rst-reset.ensures.net c.rst-reset.ensures.width c.number.ensures c.requires.bits (pow_pos c.args.bits) c.requires.register c.requires.width c.in_ok-index.ensures.gate)
-
-pub returns-clause-next : goal.returns-clause-next
-returns-clause-next c =
-    next_is c.args.b.now c.gate.new.b c.count.new.b c.register_value.new.b c.args.register c.in_ok-index.index c.in_ok-more.more.next c.in_ok-next.next c.args.bits c.args.last c.args.wraps c.gate.ensures.logic.includes c.count.ensures.logic.includes c.register_value.ensures.logic.includes
-    (index_is c.args.b.now c.gate.new.b c.args.register c.rst-reset.result c.in_ok-index.index c.number.result c.args.bits 0 c.gate.ensures.logic.includes c.rst-reset.ensures.reset c.rst-reset.ensures.net c.rst-reset.ensures.width c.number.ensures c.requires.bits (pow_pos c.args.bits) c.requires.register c.requires.width c.in_ok-index.ensures.gate)
-    c.in_ok-more.ensures.next c.in_ok-next.ensures.net
-
-pub returns-clause-depth : goal.returns-clause-depth
-returns-clause-depth c =
-    index_over c.register_value.new.b c.gate.new.b c.args.b.now c.args.register c.rst-reset.result c.in_ok-index.index c.number.result (record { width = c.args.bits; value = 0 }) c.gate.ensures.logic.includes (includes_on _ _ _ c.count.ensures.logic.includes c.register_value.ensures.logic.includes) c.rst-reset.ensures.reset c.number.ensures c.in_ok-index.ensures.gate
+pub returns-clause-count : goal.returns-clause-count
+returns-clause-count c = record {
+  index = computes_more c.register_value.new.b c.gate.new.b c.args.b.now _ c.args.bits _ c.in_ok-index.index (includes_on _ _ _ c.count.ensures.logic.includes c.register_value.ensures.logic.includes)
+      (index_is c.args.b.now c.gate.new.b c.args.register c.rst-reset.result c.in_ok-index.index c.number.result c.args.bits 0 c.gate.ensures.logic.includes c.rst-reset.ensures.reset c.rst-reset.ensures.net c.rst-reset.ensures.width c.number.ensures c.requires.range.wide (pow_pos c.args.bits) c.requires.register c.requires.width c.in_ok-index.ensures.gate);
+  depth = index_over c.register_value.new.b c.gate.new.b c.args.b.now c.args.register c.rst-reset.result c.in_ok-index.index c.number.result (record { width = c.args.bits; value = 0 }) c.gate.ensures.logic.includes (includes_on _ _ _ c.count.ensures.logic.includes c.register_value.ensures.logic.includes) c.rst-reset.ensures.reset c.number.ensures c.in_ok-index.ensures.gate;
+  next = next_is c.args.b.now c.gate.new.b c.count.new.b c.register_value.new.b c.args.register c.in_ok-index.index c.in_ok-more.more.next c.in_ok-next.next c.args.bits c.args.last c.args.wraps c.gate.ensures.logic.includes c.count.ensures.logic.includes c.register_value.ensures.logic.includes
+      (index_is c.args.b.now c.gate.new.b c.args.register c.rst-reset.result c.in_ok-index.index c.number.result c.args.bits 0 c.gate.ensures.logic.includes c.rst-reset.ensures.reset c.rst-reset.ensures.net c.rst-reset.ensures.width c.number.ensures c.requires.range.wide (pow_pos c.args.bits) c.requires.register c.requires.width c.in_ok-index.ensures.gate)
+      c.in_ok-more.ensures.next c.in_ok-next.ensures.net;
+}

@@ -11,6 +11,7 @@ use Rattle.net_build.specs.Draft.{IsDraft, IsFree, with_array}
 use Rattle.net_build.proofs.Drafts.{draft_array, includes_array, includes_same}
 use Rattle.net_build.specs.Runs.{NeverStops}
 use Rattle.net_build.proofs.Stops.{array_stops}
+use Rattle.net_build.proofs.Failing.{at_err}
 use Rattle.net_build.proofs.Updating.{array_free, last_shape}
 use Rattle.net_build.specs.Control.{IsControlled}
 use Rattle.net_build.proofs.Control.{array_control}
@@ -26,35 +27,28 @@ invariant_of-self-2 c =
       c.in_ok-x.ensures.room,
     )
 
-pub returns-clause-includes : goal.returns-clause-includes
-returns-clause-includes c =
-    let b : Netlist = netlist_of c.self.inside.wiring in
-    subst (λ (n : Netlist). Includes (netlist_of c.add_array.new.wiring) n) c.self.view_is (includes_same _ (netlist_of c.add_array.new.wiring) b c.in_ok-x.ensures.ok (includes_array b (record { width = c.new.result; depth = c.new-2.result })))
+pub returns : goal.returns
+returns c = record {
+  includes = let b : Netlist = netlist_of c.self.inside.wiring in
+      subst (λ (n : Netlist). Includes (netlist_of c.add_array.new.wiring) n) c.self.view_is (includes_same _ (netlist_of c.add_array.new.wiring) b c.in_ok-x.ensures.ok (includes_array b (record { width = c.new.result; depth = c.new-2.result })));
+  number = c.in_ok-x.ensures.number ∙ ap (λ (n : Netlist). length n.arrays) c.self.view_is;
+  shape = let b : Netlist = netlist_of c.self.inside.wiring in
+      let shape : Shape = record { width = c.new.result; depth = c.new-2.result } in
+      let last : slice_get (with_array b shape).arrays (length b.arrays) ≡ Some shape = last_shape b shape in
+      subst (λ (n : Netlist). slice_get n.arrays c.in_ok-x.x ≡ Some (let s : Shape = record { width = c.args.width; depth = c.args.depth } in s)) (sym c.in_ok-x.ensures.ok)
+      (subst (λ (k : ℕ). slice_get (with_array b shape).arrays k ≡ Some (let s : Shape = record { width = c.args.width; depth = c.args.depth } in s)) (sym c.in_ok-x.ensures.number)
+      (last ∙ ap (λ (w : ℕ). Some (let s : Shape = record { width = w; depth = c.new-2.result } in s)) c.new.ensures ∙ ap (λ (d : ℕ). Some (let s : Shape = record { width = c.args.width; depth = d } in s)) c.new-2.ensures));
+  free = let b : Netlist = netlist_of c.self.inside.wiring in
+      let shape : Shape = record { width = c.new.result; depth = c.new-2.result } in
+      let free : IsFree (with_array b shape) (OfArray (length b.arrays)) = array_free b shape c.self.invariant.0 in
+      subst (λ (n : Netlist). IsFree n (OfArray c.in_ok-x.x)) (sym c.in_ok-x.ensures.ok) (subst (λ (k : ℕ). IsFree (with_array b shape) (OfArray k)) (sym c.in_ok-x.ensures.number) free);
+  made = c.in_ok-x.ensures.ok
+      ∙ ap (λ (n : Netlist). with_array n (record { width = c.new.result; depth = c.new-2.result })) c.self.view_is
+      ∙ ap (λ (w : ℕ). with_array c.args.self.now (record { width = w; depth = c.new-2.result })) c.new.ensures
+      ∙ ap (λ (d : ℕ). with_array c.args.self.now (record { width = c.args.width; depth = d })) c.new-2.ensures;
+  stops = λ never. subst NeverStops (sym c.in_ok-x.ensures.ok) (array_stops (netlist_of c.self.inside.wiring) (record { width = c.new.result; depth = c.new-2.result }) (subst NeverStops (sym c.self.view_is) never));
+  control = λ copies is. subst (λ (b : Netlist). IsControlled b copies) (sym c.in_ok-x.ensures.ok) (array_control (netlist_of c.self.inside.wiring) (record { width = c.new.result; depth = c.new-2.result }) copies (subst (λ (b : Netlist). IsControlled b copies) (sym c.self.view_is) is));
+}
 
-pub returns-in_err-x-clause-stops : goal.returns-in_err-x-clause-stops
-returns-in_err-x-clause-stops c never = subst NeverStops (sym c.in_err-x.ensures.err) (subst NeverStops (sym c.self.view_is) never)
-
-pub returns-clause-stops : goal.returns-clause-stops
-returns-clause-stops c never = subst NeverStops (sym c.in_ok-x.ensures.ok) (array_stops (netlist_of c.self.inside.wiring) (record { width = c.new.result; depth = c.new-2.result }) (subst NeverStops (sym c.self.view_is) never))
-
-pub returns-clause-free : goal.returns-clause-free
-returns-clause-free c =
-    let b : Netlist = netlist_of c.self.inside.wiring in
-    let shape : Shape = record { width = c.new.result; depth = c.new-2.result } in
-    let free : IsFree (with_array b shape) (OfArray (length b.arrays)) = array_free b shape c.self.invariant.0 in
-    subst (λ (n : Netlist). IsFree n (OfArray c.in_ok-x.x)) (sym c.in_ok-x.ensures.ok) (subst (λ (k : ℕ). IsFree (with_array b shape) (OfArray k)) (sym c.in_ok-x.ensures.number) free)
-
-pub returns-clause-shape : goal.returns-clause-shape
-returns-clause-shape c =
-    let b : Netlist = netlist_of c.self.inside.wiring in
-    let shape : Shape = record { width = c.new.result; depth = c.new-2.result } in
-    let last : slice_get (with_array b shape).arrays (length b.arrays) ≡ Some shape = last_shape b shape in
-    subst (λ (n : Netlist). slice_get n.arrays c.in_ok-x.x ≡ Some (let s : Shape = record { width = c.args.width; depth = c.args.depth } in s)) (sym c.in_ok-x.ensures.ok)
-    (subst (λ (k : ℕ). slice_get (with_array b shape).arrays k ≡ Some (let s : Shape = record { width = c.args.width; depth = c.args.depth } in s)) (sym c.in_ok-x.ensures.number)
-    (last ∙ ap (λ (w : ℕ). Some (let s : Shape = record { width = w; depth = c.new-2.result } in s)) c.new.ensures ∙ ap (λ (d : ℕ). Some (let s : Shape = record { width = c.args.width; depth = d } in s)) c.new-2.ensures))
-
-pub returns-in_err-x-clause-control : goal.returns-in_err-x-clause-control
-returns-in_err-x-clause-control c copies is = subst (λ (b : Netlist). IsControlled b copies) (sym c.in_err-x.ensures.err) (subst (λ (b : Netlist). IsControlled b copies) (sym c.self.view_is) is)
-
-pub returns-clause-control : goal.returns-clause-control
-returns-clause-control c copies is = subst (λ (b : Netlist). IsControlled b copies) (sym c.in_ok-x.ensures.ok) (array_control (netlist_of c.self.inside.wiring) (record { width = c.new.result; depth = c.new-2.result }) copies (subst (λ (b : Netlist). IsControlled b copies) (sym c.self.view_is) is))
+pub returns-in_err-x : goal.returns-in_err-x
+returns-in_err-x c = at_err _ _ _ c.from_residual.result c.from_residual.ensures.1 (c.in_err-x.ensures.err ∙ c.self.view_is)
