@@ -8,10 +8,10 @@ use Rattle.std.proofs.lemmas.List.Folds.{list_any_more, list_any_at}
 use Rattle.std.proofs.lemmas.List.Sums.{fold-append, sum_by-append, sum_by_push}
 use Rattle.wiring.specs.declared.netlist.Shape.{Shape}
 use Rattle.wiring.specs.Netlist.{Netlist}
-use Rattle.net_build.specs.Registers.{register_bits, with_new}
+use Rattle.net_build.specs.Registers.{register_bits, count_bits, with_new}
 use Rattle.line_buffer.specs.declared.sharing.Turns.{Turns}
 use Rattle.line_buffer.specs.Places.{later, depth_of, segment_shapes, chain_shapes, ring_shapes}
-use Rattle.line_buffer.specs.SharedCounters.{line_words, block_words, turn_bits, long_words, short_words, copy_bits, CountsTurns}
+use Rattle.line_buffer.specs.SharedCounters.{line_words, block_words, index_bits, turn_bits, long_words, short_words, copy_bits, CountsTurns}
 use Rattle.line_buffer.proofs.Ages.{later_depth}
 use Rattle.line_buffer.proofs.Rotations.{yes_eq, no_eq}
 use Rattle.line_buffer.proofs.Chaining.{shapes_push, later_push}
@@ -37,6 +37,19 @@ one_there f x ts k t within at same = any_map f x ts ∙ list_any_at (λ t. f t 
 -- a register more
 pub register_push : (new old : Netlist) (width : ℕ) → new.regs ≡ old.regs ++ width ∷ [] → register_bits new ≡ register_bits old + width
 register_push new old width e = ap sum e ∙ sum_by_push (λ (n : ℕ). n) old.regs width
+
+-- a counter that is listed after others
+pub listed_new : {X : Type 0} (f : X → ℕ) (now before : List X) (t : X) (words : ℕ) → f t ≡ words → now ≡ before ++ t ∷ [] → false ≡ list_any (λ (y : ℕ). y == words) (map f before) → map f now ≡ with_new (map f before) words
+listed_new f now before t words is more none =
+    ap (map f) more
+    ∙ map-append f before (t ∷ [])
+    ∙ ap (λ (x : ℕ). map f before ++ x ∷ []) is
+    ∙ subst (λ (h : Bool). map f before ++ words ∷ [] ≡ (if h then map f before else map f before ++ words ∷ [])) none refl
+
+pub bits_pushed : {X : Type 0} (f : X → ℕ) (now before : List X) (t : X) (words new old other : ℕ) → f t ≡ words → now ≡ before ++ t ∷ [] → new ≡ old + count_bits (words - 1) → new + (index_bits (map f before) + other) ≡ old + (index_bits (map f now) + other)
+bits_pushed {X} f now before t words new old other is more bits =
+    let pushed : index_bits (map f now) ≡ index_bits (map f before) + count_bits (f t - 1) = ap (λ (l : List X). index_bits (map f l)) more ∙ ap index_bits (map-append f before (t ∷ [])) ∙ sum_by_push (λ (n : ℕ). count_bits (n - 1)) (map f before) (f t) in
+    omega (arith, bits, pushed, ap (λ (w : ℕ). count_bits (w - 1)) is)
 
 -- the numbers of words of two parts
 words_on : (p : Shape → Bool) (first second : List Shape) → map (λ (s : Shape). s.depth) (filter p (first ++ second)) ≡ map (λ (s : Shape). s.depth) (filter p first) ++ map (λ (s : Shape). s.depth) (filter p second)

@@ -10,3 +10,5 @@ pub mod SharedCounters
 pub mod AddedLines
 pub mod Chains
 pub mod Rings
+pub mod Feeds
+pub mod Shares

@@ -1,5 +1,5 @@
 -- How a ring is read, one age after another.
-use Rattle.std.specs.Prelude.{◌≡◌, ◌==◌, ℕ, ◌+◌, ◌-◌, ◌%◌, ◌^◌, ◌<◌, nat_lt, nat_eq, IsTrue, if◌then◌else◌, List, ◌∷◌, slice_get, Some}
+use Rattle.std.specs.Prelude.{◌≡◌, ◌==◌, ℕ, ◌+◌, ◌-◌, ◌%◌, ◌^◌, ◌<◌, nat_lt, nat_eq, IsTrue, if◌then◌else◌, List, [], ◌∷◌, slice_get, Some}
 use Rattle.wiring.specs.declared.netlist.Net.{Net}
 use Rattle.wiring.specs.declared.netlist.Holder.TheVariants.{OfNet}
 use Rattle.wiring.specs.declared.netlist.Shape.{Shape}
@@ -11,8 +11,10 @@ use Rattle.net_build.specs.Includes.{Includes}
 use Rattle.net_build.specs.Draft.{IsNet, AddsWires}
 use Rattle.net_build.specs.Runs.{InEachRun}
 use Rattle.net_build.specs.Control.{is_control, AddsReads}
+use Rattle.net_build.specs.Logic.{Computes}
 use Rattle.net_build.specs.Depth.{IsWithin}
 use Rattle.line_buffer.specs.declared.lines.DelayLine.{DelayLine}
+use Rattle.line_buffer.specs.declared.rings.RingLine.{RingLine}
 use Rattle.line_buffer.specs.Lines.{IsIndex}
 use Rattle.line_buffer.specs.Depths.{line_operators, ring_operators}
 use Rattle.line_buffer.specs.Added.{EachAdded}
@@ -25,6 +27,10 @@ behind n age index = if nat_eq age n then index else if nat_lt index age then in
 -- the same as the gates give it, in numbers of this many bits
 abbrev pub place_worth : (words age bits index : ℕ) → ℕ
 place_worth words age bits index = if nat_lt index age then (index + (words - age)) % 2 ^ bits else (index + 2 ^ bits - age) % 2 ^ bits
+
+-- the net is the index of the word that was written this many clocks before the one at the index
+abbrev pub IsPlaceBehind : (new old : Netlist) → (index : Net) → (bits words age : ℕ) → Net → Type 0
+IsPlaceBehind new old index bits words age n = Computes new old (index ∷ []) bits (λ s. place_worth words age bits (net_value s index)) n
 
 -- The tap of an age in a ring of n words, in array `first`: the image's net itself at age 0, and else the word that many places before the index.
 pub record IsRingTap (b : Netlist) (first n : ℕ) (index value : Net) (age : ℕ) (tap : Net) : Type 0 where
@@ -59,3 +65,14 @@ pub record IsRing (b : Netlist) (line : DelayLine) (value : Net) (bits words : �
   pub counter : IsIndex b words line.index
   pub control : IsWithin b (is_control b.enable) line_operators (OfNet line.index)
   pub oldest : IsRingTap b line.array words line.index value words line.word
+
+-- the same of a line with its net, the bits of its index and its number of words
+abbrev pub IsRingOf : Netlist → RingLine → Type 0
+IsRingOf b ring = IsRing b ring.line ring.value ring.bits ring.words
+
+-- the taps of its ages
+abbrev pub IsTapOf : Netlist → RingLine → (age : ℕ) → (tap : Net) → Type 0
+IsTapOf b ring age tap = IsRingTap b ring.line.array ring.words ring.line.index ring.value age tap
+
+abbrev pub AreTapsOf : Netlist → RingLine → (ages : List ℕ) → List Net → Type 0
+AreTapsOf b ring ages taps = AreRingTaps b ring.line.array ring.words ring.line.index ring.value ages taps

@@ -1,18 +1,11 @@
 // Chains: an array for each two neighbouring ages, of which one word is read and then written in each clock, or read one clock ahead.
 
-ghost use Rattle.std.specs.Prelude.{◌≡◌, ℕ, ◌+◌, ◌<◌, ◌≤◌, [], ◌∷◌, ◌-◌, length, Bool, true, false, Some, IfOk, OnOk};
-ghost use Rattle.dk_base.specs.declared.TheConstants.{MAX_BUFFER_BITS};
-ghost use Rattle.wiring.specs.Netlist.{net_width};
-ghost use Rattle.wiring.specs.Sizes.{IsWidth, IsDepth};
-ghost use Rattle.net_build.specs.Includes.{Includes};
-ghost use Rattle.net_build.specs.Draft.{IsNet};
-ghost use Rattle.line_buffer.specs.Places.{chain_shapes, chain_place};
-ghost use Rattle.line_buffer.specs.Fills.{AreFilled};
-ghost use Rattle.line_buffer.specs.Depths.{line_operators};
-ghost use Rattle.line_buffer.specs.Buffers.{CanBeBuffered, AddsBuffer, IsBuffer, IsDelay, AreMadeOfBuffer};
-ghost use Rattle.line_buffer.specs.Indices.{is_long, AreReadOnce};
-ghost use Rattle.line_buffer.specs.Chains.{IsSegment, IsStep, IsChain};
-ghost use Rattle.line_buffer.specs.SharedCounters.{AreTurns, CountsTurns};
+ghost use Rattle.std.specs.Prelude.{◌≡◌, ◌≤◌, ℕ, Bool, true, false, Some};
+ghost use Rattle.line_buffer.specs.Buffers.{CanBeBuffered};
+ghost use Rattle.line_buffer.specs.Feeds.{CanFeed, CanGoOn};
+ghost use Rattle.line_buffer.specs.Indices.{is_long};
+ghost use Rattle.line_buffer.specs.Shares.{AddsChain, Makes, SharesChain, SharesSegment, SharesStep};
+ghost use Rattle.line_buffer.specs.SharedCounters.{AreTurns};
 
 use crate::blocks::block_line;
 use crate::images::BufferedImage;
@@ -48,17 +41,10 @@ fn line_segment(
     words: u32,
     from: Net,
 ) -> Result<Net, OutOfMemory>
-    requires bits { IsWidth width }
-    requires words { IsDepth words }
-    requires net { IsNet b.old from }
-    requires wide { net_width b.old from ≡ width }
+    requires feed { CanFeed b.old width words from }
     requires turns { AreTurns b.old turns.old }
-    ensures includes { Includes b.new b.old }
-    ensures turns { OnOk result (AreTurns b.new turns.new) }
-    ensures segment { IfOk result (λ n. (long : ℕ → Bool) → long words ≡ false → IsSegment b.new b.old width words long from n) }
-    ensures counts { OnOk result ((long : ℕ → Bool) → long words ≡ false → CountsTurns b.new b.old turns.new turns.old long ((record { width = width; depth = words }) ∷ [])) }
-    ensures net { IfOk result (IsNet b.new) }
-    ensures wide { IfOk result (λ n. net_width b.new n ≡ width) }
+    ensures { Makes b.new b.old result (λ n. (long : ℕ → Bool) → long words ≡ false
+        → SharesSegment b.new b.old turns.new turns.old width words long from n) }
 {
     let line = delay_line(b, turns, width, words, from)?;
     Ok(line.word)
@@ -72,18 +58,11 @@ fn block_segment(
     words: u32,
     from: Net,
 ) -> Result<Net, OutOfMemory>
-    requires bits { IsWidth width }
-    requires words { IsDepth words }
+    requires feed { CanFeed b.old width words from }
     requires some { 2 ≤ words }
-    requires net { IsNet b.old from }
-    requires wide { net_width b.old from ≡ width }
     requires turns { AreTurns b.old turns.old }
-    ensures includes { Includes b.new b.old }
-    ensures turns { OnOk result (AreTurns b.new turns.new) }
-    ensures segment { IfOk result (λ n. (long : ℕ → Bool) → long words ≡ true → IsSegment b.new b.old width words long from n) }
-    ensures counts { OnOk result ((long : ℕ → Bool) → long words ≡ true → CountsTurns b.new b.old turns.new turns.old long ((record { width = width; depth = words }) ∷ [])) }
-    ensures net { IfOk result (IsNet b.new) }
-    ensures wide { IfOk result (λ n. net_width b.new n ≡ width) }
+    ensures { Makes b.new b.old result (λ n. (long : ℕ → Bool) → long words ≡ true
+        → SharesSegment b.new b.old turns.new turns.old width words long from n) }
 {
     let at = turning_indices(b, turns, words)?;
     let net = block_line(b, width, words, from, at)?;
@@ -99,18 +78,11 @@ fn segment(
     from: Net,
     least: Option<u32>,
 ) -> Result<Net, OutOfMemory>
-    requires bits { IsWidth width }
-    requires words { IsDepth words }
+    requires feed { CanFeed b.old width words from }
     requires two { (n : ℕ) → least ≡ Some n → 2 ≤ n }
-    requires net { IsNet b.old from }
-    requires wide { net_width b.old from ≡ width }
     requires turns { AreTurns b.old turns.old }
-    ensures includes { Includes b.new b.old }
-    ensures turns { OnOk result (AreTurns b.new turns.new) }
-    ensures segment { IfOk result (IsSegment b.new b.old width words (is_long least) from) }
-    ensures counts { OnOk result (CountsTurns b.new b.old turns.new turns.old (is_long least) ((record { width = width; depth = words }) ∷ [])) }
-    ensures net { IfOk result (IsNet b.new) }
-    ensures wide { IfOk result (λ n. net_width b.new n ≡ width) }
+    ensures { Makes b.new b.old result (SharesSegment b.new b.old turns.new turns.old width words
+        (is_long least) from) }
 {
     if is_long(words, least) {
         let net = block_segment(b, turns, width, words, from)?;
@@ -129,18 +101,11 @@ fn next_tap(
     age: u64,
     least: Option<u32>,
 ) -> Result<Tap, OutOfMemory>
-    requires bits { IsWidth width }
-    requires up { from.age ≤ age }
-    requires most { age ≤ MAX_BUFFER_BITS }
+    requires next { CanGoOn b.old width from age }
     requires two { (n : ℕ) → least ≡ Some n → 2 ≤ n }
-    requires net { IsNet b.old from.net }
-    requires wide { net_width b.old from.net ≡ width }
     requires turns { AreTurns b.old turns.old }
-    ensures includes { Includes b.new b.old }
-    ensures turns { OnOk result (AreTurns b.new turns.new) }
-    ensures step { IfOk result (IsStep b.new b.old width (is_long least) from age) }
-    ensures stays { OnOk result (age ≡ from.age → CountsTurns b.new b.old turns.new turns.old (is_long least) []) }
-    ensures goes { OnOk result (from.age < age → CountsTurns b.new b.old turns.new turns.old (is_long least) ((record { width = width; depth = age - from.age }) ∷ [])) }
+    ensures { Makes b.new b.old result (SharesStep b.new b.old turns.new turns.old width
+        (is_long least) from age) }
 {
     if age == from.age {
         return Ok(from);
@@ -161,10 +126,8 @@ fn chained(
     requires image { CanBeBuffered b.old image.net image.width image.ages.now }
     requires two { (n : ℕ) → least ≡ Some n → 2 ≤ n }
     requires turns { AreTurns b.old turns.old }
-    ensures includes { Includes b.new b.old }
-    ensures turns { OnOk result (AreTurns b.new turns.new) }
-    ensures chain { IfOk result (λ taps. IsChain b.new b.old image.entry.width (is_long least) image.entry.net image.entry.ages.now taps.items) }
-    ensures counts { OnOk result (CountsTurns b.new b.old turns.new turns.old (is_long least) (chain_shapes image.entry.width image.entry.ages.now)) }
+    ensures { Makes b.new b.old result (λ taps. SharesChain b.new b.old turns.new turns.old
+        image.entry.width (is_long least) image.entry.net image.entry.ages.now taps.items) }
 {
     let mut nets = Vec::new(alloc);
     let mut last = Tap {
@@ -189,17 +152,8 @@ pub fn chain(
 ) -> Result<Vec<Net>, OutOfMemory>
     requires image { CanBeBuffered b.old image.net image.width image.ages.now }
     requires turns { AreTurns b.old turns.old }
-    ensures includes { Includes b.new b.old }
-    ensures turns { OnOk result (AreTurns b.new turns.new) }
-    ensures adds { OnOk result (AddsBuffer b.new b.old (chain_shapes image.entry.width image.entry.ages.now) []) }
-    ensures once { OnOk result (AreReadOnce b.new b.old) }
-    ensures buffer { IfOk result (λ taps. IsBuffer b.new [] (chain_place (length b.old.arrays) image.entry.ages.now) image.entry.ages.now taps.items image.entry.net) }
-    ensures delay { IfOk result (λ taps. IsDelay b.new (chain_place (length b.old.arrays) image.entry.ages.now) image.entry.ages.now taps.items image.entry.net) }
-    ensures made { IfOk result (λ taps. AreMadeOfBuffer b.new line_operators (length b.old.arrays)
-        (length b.old.arrays + length (chain_shapes image.entry.width image.entry.ages.now)) image.entry.ages.now taps.items) }
-    ensures fills { OnOk result (AreFilled b.new (λ x. true) [] (length b.old.arrays)
-        (length b.old.arrays + length (chain_shapes image.entry.width image.entry.ages.now)) image.entry.net) }
-    ensures counts { OnOk result (CountsTurns b.new b.old turns.new turns.old (λ words. false) (chain_shapes image.entry.width image.entry.ages.now)) }
+    ensures { Makes b.new b.old result (λ taps. AddsChain b.new b.old turns.new turns.old
+        image.entry.width image.entry.net image.entry.ages.now taps.items) }
 {
     let nets = chained(alloc, b, turns, image, None)?;
     Ok(nets)
@@ -216,10 +170,8 @@ pub fn block_chain(
     requires image { CanBeBuffered b.old image.net image.width image.ages.now }
     requires two { 2 ≤ least }
     requires turns { AreTurns b.old turns.old }
-    ensures includes { Includes b.new b.old }
-    ensures turns { OnOk result (AreTurns b.new turns.new) }
-    ensures chain { IfOk result (λ taps. IsChain b.new b.old image.entry.width (is_long (Some least)) image.entry.net image.entry.ages.now taps.items) }
-    ensures counts { OnOk result (CountsTurns b.new b.old turns.new turns.old (is_long (Some least)) (chain_shapes image.entry.width image.entry.ages.now)) }
+    ensures { Makes b.new b.old result (λ taps. SharesChain b.new b.old turns.new turns.old
+        image.entry.width (is_long (Some least)) image.entry.net image.entry.ages.now taps.items) }
 {
     let nets = chained(alloc, b, turns, image, Some(least))?;
     Ok(nets)

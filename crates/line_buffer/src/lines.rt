@@ -1,16 +1,12 @@
 // Delay lines: arrays of which a word is read and then written in each clock.
 
-ghost use Rattle.std.specs.Prelude.{◌≡◌, false, [], ◌∷◌, ◌++◌, IfOk, OnOk};
-ghost use Rattle.wiring.specs.Netlist.{net_width};
-ghost use Rattle.wiring.specs.Sizes.{IsWidth, IsDepth};
-ghost use Rattle.net_build.specs.Includes.{Includes};
-ghost use Rattle.net_build.specs.Draft.{IsNet};
-ghost use Rattle.net_build.specs.Logic.{AddsLogic, Computes};
-ghost use Rattle.net_build.specs.Counters.{control_nets, unless_held};
-ghost use Rattle.wiring.specs.Snapshot.{net_value};
+ghost use Rattle.std.specs.Prelude.{IfOk};
+ghost use Rattle.net_build.specs.Logic.{AddsLogic};
+ghost use Rattle.net_build.specs.Counters.{AreChoices, IsChoice, unless_held};
 ghost use Rattle.line_buffer.specs.Fills.{IsUnlessHeld};
-ghost use Rattle.line_buffer.specs.AddedLines.{AddsLine};
-ghost use Rattle.line_buffer.specs.SharedCounters.{AreTurns, CountsTurns};
+ghost use Rattle.line_buffer.specs.Feeds.{CanFeed};
+ghost use Rattle.line_buffer.specs.Shares.{Makes, SharesLine};
+ghost use Rattle.line_buffer.specs.SharedCounters.{AreTurns};
 
 use crate::sharing::{Turns, turning_index};
 use dk_base::OutOfMemory;
@@ -27,14 +23,9 @@ pub struct DelayLine {
 
 // What an array takes: in a held clock the word that is there, and else the net.
 pub fn stored_net(b: &mut Builder, now: Net, next: Net, bits: u8) -> Result<Net, OutOfMemory>
-    requires now { IsNet b.old now }
-    requires next { IsNet b.old next }
-    requires now_width { net_width b.old now ≡ bits }
-    requires next_width { net_width b.old next ≡ bits }
-    requires bits { IsWidth bits }
+    requires { AreChoices b.old bits now next }
     ensures logic { AddsLogic b.new b.old }
-    ensures net { IfOk result (Computes b.new b.old (control_nets b.old.enable ++ now ∷ (next ∷ []))
-        bits (λ s. unless_held b.old.enable (net_value s now) (net_value s next) s)) }
+    ensures net { IfOk result (IsChoice b.new b.old now next bits (unless_held b.old.enable)) }
     ensures right { IfOk result (IsUnlessHeld b.new now next) }
 {
     if b.has_en() {
@@ -53,15 +44,10 @@ pub fn delay_line(
     words: u32,
     value: Net,
 ) -> Result<DelayLine, OutOfMemory>
-    requires bits { IsWidth width }
-    requires words { IsDepth words }
-    requires value { IsNet b.old value }
-    requires width { net_width b.old value ≡ width }
+    requires feed { CanFeed b.old width words value }
     requires turns { AreTurns b.old turns.old }
-    ensures includes { Includes b.new b.old }
-    ensures turns { OnOk result (AreTurns b.new turns.new) }
-    ensures line { IfOk result (AddsLine b.new b.old width words value) }
-    ensures counts { OnOk result (CountsTurns b.new b.old turns.new turns.old (λ words. false) ((record { width = width; depth = words }) ∷ [])) }
+    ensures { Makes b.new b.old result
+        (SharesLine b.new b.old turns.new turns.old width words value) }
 {
     let index = turning_index(b, turns, words)?;
     b.law();

@@ -1,21 +1,17 @@
 // Rings: one array for an image, of which a word is read for each age.
 
-ghost use Rattle.std.specs.Prelude.{◌≡◌, ℕ, ◌+◌, ◌-◌, ◌<◌, ◌≤◌, ◌^◌, [], ◌∷◌, length, true, false, slice_get, Some, All, IfOk, OnOk};
+ghost use Rattle.std.specs.Prelude.{◌≡◌, ℕ, ◌<◌, ◌≤◌, [], ◌∷◌, length, slice_get, Some, All, IfOk};
 ghost use Rattle.dk_base.specs.declared.TheConstants.{MAX_BUFFER_BITS};
 ghost use Rattle.wiring.specs.declared.netlist.Net.{Net};
-ghost use Rattle.wiring.specs.Netlist.{net_width};
-ghost use Rattle.wiring.specs.Snapshot.{net_value};
-ghost use Rattle.wiring.specs.Sizes.{IsWidth, IsDepth};
-ghost use Rattle.net_build.specs.Includes.{Includes};
-ghost use Rattle.net_build.specs.Draft.{IsNet};
+ghost use Rattle.wiring.specs.Sizes.{IsDepth};
 ghost use Rattle.net_build.specs.Depth.{IsOver};
-ghost use Rattle.net_build.specs.Logic.{AddsLogic, Computes};
-ghost use Rattle.line_buffer.specs.Places.{depth_of, ring_shapes, ring_place};
-ghost use Rattle.line_buffer.specs.Rings.{place_worth, IsRing, AddsTaps, IsRingTap, AreRingTaps};
-ghost use Rattle.line_buffer.specs.Fills.{AreFilled};
-ghost use Rattle.line_buffer.specs.Depths.{ring_operators};
-ghost use Rattle.line_buffer.specs.SharedCounters.{AreTurns, CountsTurns};
-ghost use Rattle.line_buffer.specs.Buffers.{CanBeBuffered, AddsBuffer, IsBuffer, IsDelay, AreMadeOfBuffer};
+ghost use Rattle.net_build.specs.Logic.{AddsLogic};
+ghost use Rattle.line_buffer.specs.Buffers.{CanBeBuffered};
+ghost use Rattle.line_buffer.specs.Feeds.{CanGoBack};
+ghost use Rattle.line_buffer.specs.Places.{depth_of};
+ghost use Rattle.line_buffer.specs.Rings.{AddsTaps, AreTapsOf, IsPlaceBehind, IsRingOf, IsTapOf};
+ghost use Rattle.line_buffer.specs.Shares.{AddsRing, Makes};
+ghost use Rattle.line_buffer.specs.SharedCounters.{AreTurns};
 
 use crate::images::BufferedImage;
 use crate::lines::{DelayLine, delay_line};
@@ -33,14 +29,9 @@ fn index_behind(
     words: u64,
     age: u64,
 ) -> Result<Net, OutOfMemory>
-    requires index { IsNet b.old index }
-    requires width { net_width b.old index ≡ bits }
-    requires bits { IsWidth bits }
-    requires words { words - 1 < 2 ^ bits }
-    requires some { 0 < age }
-    requires short { age < words }
+    requires { CanGoBack b.old index bits words age }
     ensures logic { AddsLogic b.new b.old }
-    ensures net { IfOk result (Computes b.new b.old (index ∷ []) bits (λ s. place_worth words age bits (net_value s index))) }
+    ensures net { IfOk result (IsPlaceBehind b.new b.old index bits words age) }
     ensures depth { IfOk result (IsOver b.new b.old 2 (index ∷ [])) }
 {
     let low = gate(
@@ -73,11 +64,11 @@ struct RingLine {
 
 // The word that was written `age` clocks before the one at the index.
 fn word_behind(b: &mut Builder, ring: RingLine, age: u64) -> Result<Net, OutOfMemory>
-    requires ring { IsRing b.old ring.line ring.value ring.bits ring.words }
+    requires ring { IsRingOf b.old ring }
     requires some { 0 < age }
     requires short { age < ring.words }
     ensures taps { AddsTaps b.new b.old ring.line.array }
-    ensures tap { IfOk result (IsRingTap b.new ring.line.array ring.words ring.line.index ring.value age) }
+    ensures tap { IfOk result (IsTapOf b.new ring age) }
 {
     let place = index_behind(b, ring.line.index, ring.bits, ring.words, age)?;
     let word = b.op(Right::Word(ring.line.array, Atom::Net(place)))?;
@@ -86,10 +77,10 @@ fn word_behind(b: &mut Builder, ring: RingLine, age: u64) -> Result<Net, OutOfMe
 
 // The net of one age: the image's own, the oldest word, or one before the index.
 fn ring_tap(b: &mut Builder, ring: RingLine, age: u64) -> Result<Net, OutOfMemory>
-    requires ring { IsRing b.old ring.line ring.value ring.bits ring.words }
+    requires ring { IsRingOf b.old ring }
     requires deep { age ≤ ring.words }
     ensures taps { AddsTaps b.new b.old ring.line.array }
-    ensures tap { IfOk result (IsRingTap b.new ring.line.array ring.words ring.line.index ring.value age) }
+    ensures tap { IfOk result (IsTapOf b.new ring age) }
 {
     if age == 0 {
         return Ok(ring.value);
@@ -108,11 +99,11 @@ fn ring_taps(
     ring: RingLine,
     ages: &[u64],
 ) -> Result<Vec<Net>, OutOfMemory>
-    requires ring { IsRing b.old ring.line ring.value ring.bits ring.words }
+    requires ring { IsRingOf b.old ring }
     requires deep { All (λ age. age ≤ ring.words) ages.now }
     ensures taps { AddsTaps b.new b.old ring.line.array }
     ensures one_each { IfOk result (λ taps. length taps.items ≡ length ages.now) }
-    ensures are { IfOk result (λ taps. AreRingTaps b.new ring.line.array ring.words ring.line.index ring.value ages.now taps.items) }
+    ensures are { IfOk result (λ taps. AreTapsOf b.new ring ages.now taps.items) }
 {
     let mut nets = Vec::new(alloc);
     for age in ages {
@@ -138,7 +129,8 @@ fn greatest(ages: &[u64]) -> u64
 // The image's own net for each age, if none is above 0.
 fn still_taps(alloc: Global, value: Net, ages: &[u64]) -> Result<Vec<Net>, OutOfMemory>
     ensures one_each { IfOk result (λ taps. length taps.items ≡ length ages.now) }
-    ensures same { IfOk result (λ taps. (k : ℕ) (tap : Net) → slice_get taps.items k ≡ Some tap → tap ≡ value) }
+    ensures same { IfOk result (λ taps. (k : ℕ) (tap : Net) → slice_get taps.items k ≡ Some tap
+        → tap ≡ value) }
 {
     let mut nets = Vec::new(alloc);
     for _ in ages {
@@ -159,15 +151,8 @@ fn ring_array(
     requires depth { words ≡ depth_of image.ages.now }
     requires image { CanBeBuffered b.old image.net image.width image.ages.now }
     requires turns { AreTurns b.old turns.old }
-    ensures includes { Includes b.new b.old }
-    ensures turns { OnOk result (AreTurns b.new turns.new) }
-    ensures adds { OnOk result (AddsBuffer b.new b.old (ring_shapes image.entry.width image.entry.ages.now) []) }
-    ensures buffer { IfOk result (λ taps. IsBuffer b.new [] (ring_place (length b.old.arrays) image.entry.ages.now) image.entry.ages.now taps.items image.entry.net) }
-    ensures made { IfOk result (λ taps. AreMadeOfBuffer b.new ring_operators (length b.old.arrays)
-        (length b.old.arrays + length (ring_shapes image.entry.width image.entry.ages.now)) image.entry.ages.now taps.items) }
-    ensures fills { OnOk result (AreFilled b.new (λ x. true) [] (length b.old.arrays)
-        (length b.old.arrays + length (ring_shapes image.entry.width image.entry.ages.now)) image.entry.net) }
-    ensures counts { OnOk result (CountsTurns b.new b.old turns.new turns.old (λ words. false) (ring_shapes image.entry.width image.entry.ages.now)) }
+    ensures { Makes b.new b.old result (λ taps. AddsRing b.new b.old turns.new turns.old
+        image.entry.width image.entry.net image.entry.ages.now taps.items) }
 {
     let line = delay_line(b, turns, image.width, words, image.net)?;
     let count = u64::from(words);
@@ -193,16 +178,8 @@ pub fn ring(
 ) -> Result<Vec<Net>, OutOfMemory>
     requires image { CanBeBuffered b.old image.net image.width image.ages.now }
     requires turns { AreTurns b.old turns.old }
-    ensures includes { Includes b.new b.old }
-    ensures turns { OnOk result (AreTurns b.new turns.new) }
-    ensures adds { OnOk result (AddsBuffer b.new b.old (ring_shapes image.entry.width image.entry.ages.now) []) }
-    ensures buffer { IfOk result (λ taps. IsBuffer b.new [] (ring_place (length b.old.arrays) image.entry.ages.now) image.entry.ages.now taps.items image.entry.net) }
-    ensures delay { IfOk result (λ taps. IsDelay b.new (ring_place (length b.old.arrays) image.entry.ages.now) image.entry.ages.now taps.items image.entry.net) }
-    ensures made { IfOk result (λ taps. AreMadeOfBuffer b.new ring_operators (length b.old.arrays)
-        (length b.old.arrays + length (ring_shapes image.entry.width image.entry.ages.now)) image.entry.ages.now taps.items) }
-    ensures fills { OnOk result (AreFilled b.new (λ x. true) [] (length b.old.arrays)
-        (length b.old.arrays + length (ring_shapes image.entry.width image.entry.ages.now)) image.entry.net) }
-    ensures counts { OnOk result (CountsTurns b.new b.old turns.new turns.old (λ words. false) (ring_shapes image.entry.width image.entry.ages.now)) }
+    ensures { Makes b.new b.old result (λ taps. AddsRing b.new b.old turns.new turns.old
+        image.entry.width image.entry.net image.entry.ages.now taps.items) }
 {
     let depth = greatest(image.ages);
     if depth == 0 {

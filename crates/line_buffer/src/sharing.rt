@@ -1,15 +1,14 @@
 // The counters of arrays: arrays of the same number of words share one.
 
-ghost use Rattle.std.specs.Prelude.{◌≡◌, ◌≤◌, ◌==◌, ◌+◌, ◌-◌, ℕ, [], IfOk, IfSome, OnOk};
+ghost use Rattle.std.specs.Prelude.{◌≡◌, ◌==◌, ℕ, [], IfOk, IfSome};
 ghost use Rattle.std.specs.Option.{is_some};
 ghost use Rattle.std.specs.List.{list_any};
 ghost use Rattle.wiring.specs.Netlist.{Netlist};
 ghost use Rattle.wiring.specs.Sizes.{IsDepth};
-ghost use Rattle.net_build.specs.Includes.{Includes};
-ghost use Rattle.net_build.specs.Registers.{register_bits, count_bits, with_new};
-ghost use Rattle.line_buffer.specs.Buffers.{AddsBuffer};
+ghost use Rattle.net_build.specs.Logic.{AddsLogic};
 ghost use Rattle.line_buffer.specs.Lines.{AreIndices};
-ghost use Rattle.line_buffer.specs.SharedCounters.{IsTurn, AreTurns, line_words, block_words, turn_bits};
+ghost use Rattle.line_buffer.specs.Shares.{AddsTurn, AddsTurns, Makes, SharesTurn, SharesTurns};
+ghost use Rattle.line_buffer.specs.SharedCounters.{IsTurn, AreTurns, line_words, block_words};
 
 use dk_base::OutOfMemory;
 use net_build::{Builder, Indices, counter, cycle, gate, number};
@@ -53,7 +52,8 @@ fn line_turn(turns: &Turns, words: u32) -> Option<Net>
 
 // The same of arrays that are read one clock ahead.
 fn block_turn(turns: &Turns, words: u32) -> Option<Indices>
-    ensures found { IfSome result (λ at. (b : Netlist) → AreTurns b turns.now → AreIndices b words at) }
+    ensures found { IfSome result (λ at. (b : Netlist) → AreTurns b turns.now
+        → AreIndices b words at) }
     ensures listed { is_some result ≡ list_any (λ (y : ℕ). y == words) (block_words turns.now) }
 {
     for k in 0..turns.blocks.len() {
@@ -67,10 +67,8 @@ fn block_turn(turns: &Turns, words: u32) -> Option<Indices>
 
 // The one index of an array of one word: 0, without a register.
 fn no_turn(b: &mut Builder) -> Result<Net, OutOfMemory>
-    ensures includes { Includes b.new b.old }
-    ensures adds { OnOk result (AddsBuffer b.new b.old [] []) }
+    ensures logic { AddsLogic b.new b.old }
     ensures turn { IfOk result (IsTurn b.new 1) }
-    ensures regs { b.new.regs ≡ b.old.regs }
 {
     let net = gate(b, Right::Copy(number(1, 0)))?;
     Ok(net)
@@ -79,10 +77,7 @@ fn no_turn(b: &mut Builder) -> Result<Net, OutOfMemory>
 // An index that goes through this many words, a word in each counted clock, from the first on after a reset.
 fn new_turn(b: &mut Builder, words: u32) -> Result<Net, OutOfMemory>
     requires { IsDepth words }
-    ensures includes { Includes b.new b.old }
-    ensures adds { OnOk result (AddsBuffer b.new b.old [] []) }
-    ensures turn { IfOk result (IsTurn b.new words) }
-    ensures bits { OnOk result (register_bits b.new ≡ register_bits b.old + count_bits (words - 1)) }
+    ensures { Makes b.new b.old result (AddsTurn b.new b.old words) }
 {
     if words == 1 {
         let net = no_turn(b)?;
@@ -97,13 +92,7 @@ fn new_turn(b: &mut Builder, words: u32) -> Result<Net, OutOfMemory>
 pub fn turning_index(b: &mut Builder, turns: &mut Turns, words: u32) -> Result<Net, OutOfMemory>
     requires words { IsDepth words }
     requires turns { AreTurns b.old turns.old }
-    ensures includes { Includes b.new b.old }
-    ensures adds { OnOk result (AddsBuffer b.new b.old [] []) }
-    ensures turn { IfOk result (IsTurn b.new words) }
-    ensures turns { OnOk result (AreTurns b.new turns.new) }
-    ensures lines { OnOk result (line_words turns.new ≡ with_new (line_words turns.old) words) }
-    ensures blocks { OnOk result (block_words turns.new ≡ block_words turns.old) }
-    ensures bits { OnOk result (register_bits b.new + turn_bits turns.old ≡ register_bits b.old + turn_bits turns.new) }
+    ensures { Makes b.new b.old result (SharesTurn b.new b.old turns.new turns.old words) }
 {
     if let Some(net) = line_turn(turns, words) {
         return Ok(net);
@@ -121,13 +110,7 @@ pub fn turning_indices(
 ) -> Result<Indices, OutOfMemory>
     requires words { IsDepth words }
     requires turns { AreTurns b.old turns.old }
-    ensures includes { Includes b.new b.old }
-    ensures adds { OnOk result (AddsBuffer b.new b.old [] []) }
-    ensures indices { IfOk result (AreIndices b.new words) }
-    ensures turns { OnOk result (AreTurns b.new turns.new) }
-    ensures lines { OnOk result (line_words turns.new ≡ line_words turns.old) }
-    ensures blocks { OnOk result (block_words turns.new ≡ with_new (block_words turns.old) words) }
-    ensures bits { OnOk result (2 ≤ words → register_bits b.new + turn_bits turns.old ≡ register_bits b.old + turn_bits turns.new) }
+    ensures { Makes b.new b.old result (SharesTurns b.new b.old turns.new turns.old words) }
 {
     if let Some(at) = block_turn(turns, words) {
         return Ok(at);
@@ -140,10 +123,7 @@ pub fn turning_indices(
 // New ones.
 fn new_turns(b: &mut Builder, words: u32) -> Result<Indices, OutOfMemory>
     requires { IsDepth words }
-    ensures includes { Includes b.new b.old }
-    ensures adds { OnOk result (AddsBuffer b.new b.old [] []) }
-    ensures indices { IfOk result (AreIndices b.new words) }
-    ensures bits { OnOk result (2 ≤ words → register_bits b.new ≡ register_bits b.old + count_bits (words - 1)) }
+    ensures { Makes b.new b.old result (AddsTurns b.new b.old words) }
 {
     let last = u64::from(words) - 1;
     let indices = cycle(b, last)?;

@@ -3,6 +3,7 @@ use Rattle.std.specs.Prelude.{slice_index_or}
 use Rattle.std.proofs.lemmas.List.{take_more, take_all}
 use Rattle.net_build.proofs.Parts.{Includes-refl, includes_on}
 use Rattle.net_build.proofs.Grown.{width_more}
+use Rattle.net_build.proofs.Failing.{at_err}
 use Rattle.line_buffer.specs.Indices.{is_long}
 use Rattle.line_buffer.specs.Places.{chain_shapes}
 use Rattle.line_buffer.specs.SharedCounters.{CountsTurns}
@@ -20,16 +21,13 @@ loop-age-init c = record {
   counts = counts_none c.args.b.now c.args.turns.now (is_long c.args.least);
 }
 
-pub next_tap-requires-clause-up : goal.next_tap-requires-clause-up
-next_tap-requires-clause-up c = up_next c.args.image.ages.now c.loop-age.age-index c.loop-age.last.age c.requires.image.ascending c.loop-age-test.true c.loop-age.invariant.chained.age_is
-
 pub loop-age-preserved : goal.loop-age-preserved
 loop-age-preserved c =
     let i : ℕ = c.loop-age.age-index in
     let age : ℕ = slice_index_or c.args.image.ages.now i 0 in
     let more : c.push.new.self.items ≡ c.loop-age.nets.items ++ c.in_ok-last.last.net ∷ [] = search rules in
     record {
-      includes = includes_on _ _ _ c.loop-age.invariant.includes c.next_tap.ensures.includes;
+      includes = includes_on _ _ _ c.loop-age.invariant.includes c.in_ok-last.ensures.includes;
       turns = c.in_ok-last.ensures.turns;
       chained =
           subst (λ ages. IsChained c.next_tap.new.b c.args.b.now c.args.image.width (is_long c.args.least) c.args.image.net ages c.push.new.self.items c.in_ok-last.last) (sym (take_more c.args.image.ages.now i 0 c.loop-age-test.true))
@@ -40,13 +38,28 @@ loop-age-preserved c =
           (counts_more c.next_tap.new.b c.loop-age.b c.args.b.now c.next_tap.new.turns c.loop-age.turns c.args.turns.now (is_long c.args.least) c.args.image.width (take i c.args.image.ages.now) c.loop-age.last.age age c.loop-age.invariant.chained.age_is (below_next c.args.image.ages.now i c.requires.image.ascending c.loop-age-test.true) c.loop-age.invariant.counts c.in_ok-last.ensures.stays c.in_ok-last.ensures.goes);
     }
 
-pub returns-clause-chain : goal.returns-clause-chain
-returns-clause-chain c =
-    let all = take_all c.loop-age.age-index c.args.image.ages.now c.loop-age-test.false in
-    chained_chain c.loop-age.b c.args.b.now c.args.image.width (is_long c.args.least) c.args.image.net c.args.image.ages.now c.loop-age.nets.items c.loop-age.last c.requires.image.ascending (width_more c.loop-age.b c.args.b.now c.loop-age.invariant.includes c.args.image.net c.requires.image.there.declared ∙ c.requires.image.wide)
-    (subst (λ ages. IsChained c.loop-age.b c.args.b.now c.args.image.width (is_long c.args.least) c.args.image.net ages c.loop-age.nets.items c.loop-age.last) all c.loop-age.invariant.chained)
+pub next_tap-requires-clause-next : goal.next_tap-requires-clause-next
+next_tap-requires-clause-next c = record {
+  bits = c.requires.image.bits;
+  up = up_next c.args.image.ages.now c.loop-age.age-index c.loop-age.last.age c.requires.image.ascending c.loop-age-test.true c.loop-age.invariant.chained.age_is;
+  most = c.requires.image.most c.loop-age.age-index 0 c.loop-age-test.true;
+  there = c.loop-age.invariant.chained.net;
+  wide = c.loop-age.invariant.chained.wide;
+}
 
-pub returns-clause-counts : goal.returns-clause-counts
-returns-clause-counts c =
-    let all = take_all c.loop-age.age-index c.args.image.ages.now c.loop-age-test.false in
-    subst (λ ages. CountsTurns c.loop-age.b c.args.b.now c.loop-age.turns c.args.turns.now (is_long c.args.least) (chain_shapes c.args.image.width ages)) all c.loop-age.invariant.counts
+pub returns-in_err-last : goal.returns-in_err-last
+returns-in_err-last c = at_err _ _ _ c.from_residual.result c.from_residual.ensures.1 (includes_on _ _ _ c.loop-age.invariant.includes c.in_err-last.ensures)
+
+pub returns-in_err-push : goal.returns-in_err-push
+returns-in_err-push c = at_err _ _ _ c.from_residual-in_err-push.result c.from_residual-in_err-push.ensures.1 (includes_on _ _ _ c.loop-age.invariant.includes c.in_ok-last.ensures.includes)
+
+pub returns : goal.returns
+returns c = record {
+  includes = c.loop-age.invariant.includes;
+  turns = c.loop-age.invariant.turns;
+  chain = let all = take_all c.loop-age.age-index c.args.image.ages.now c.loop-age-test.false in
+      chained_chain c.loop-age.b c.args.b.now c.args.image.width (is_long c.args.least) c.args.image.net c.args.image.ages.now c.loop-age.nets.items c.loop-age.last c.requires.image.ascending (width_more c.loop-age.b c.args.b.now c.loop-age.invariant.includes c.args.image.net c.requires.image.there.declared ∙ c.requires.image.wide)
+      (subst (λ ages. IsChained c.loop-age.b c.args.b.now c.args.image.width (is_long c.args.least) c.args.image.net ages c.loop-age.nets.items c.loop-age.last) all c.loop-age.invariant.chained);
+  counts = let all = take_all c.loop-age.age-index c.args.image.ages.now c.loop-age-test.false in
+      subst (λ ages. CountsTurns c.loop-age.b c.args.b.now c.loop-age.turns c.args.turns.now (is_long c.args.least) (chain_shapes c.args.image.width ages)) all c.loop-age.invariant.counts;
+}

@@ -11,7 +11,7 @@ use Rattle.line_buffer.proofs.lines.stored_net.Goals as goal
 
 pub op-requires : goal.op-requires
 op-requires c =
-    choose_operation c.args.b.now (atom.Net c.en-en.result) (atom.Net c.args.next) (atom.Net c.args.now) c.args.bits c.requires.bits (net_operand c.args.b.now c.en-en.result 1 c.en-en.ensures.net c.en-en.ensures.width)
+    choose_operation c.args.b.now (atom.Net c.en-en.result) (atom.Net c.args.next) (atom.Net c.args.now) c.args.bits c.requires.wide (net_operand c.args.b.now c.en-en.result 1 c.en-en.ensures.net c.en-en.ensures.width)
     (net_operand c.args.b.now c.args.next c.args.bits c.requires.next c.requires.next_width) (net_operand c.args.b.now c.args.now c.args.bits c.requires.now c.requires.now_width)
 
 pub returns-then-has_en-clause-logic : goal.returns-then-has_en-clause-logic

@@ -35,3 +35,13 @@ returns-clause-tap c =
     let there : slice_get b1.arrays c.args.ring.line.array ≡ Some r.shape = at_Begins c.args.b.now.arrays b1.arrays c.args.ring.line.array r.shape c.index_behind.ensures.logic.includes.arrays r.there in
     behind_tap c.args.b.now c.index_behind.new.b c.op.new.self c.args.ring.line.array c.args.ring.words c.args.age c.args.ring.bits r.shape.width c.args.ring.line.index c.in_ok-place.place c.in_ok-word.word c.args.ring.value r.shape c.index_behind.ensures.logic c.op.ensures.includes c.op.ensures.wires c.requires.some c.requires.short r.fits r.there r.deep r.counter r.control c.in_ok-place.ensures.net c.in_ok-word.ensures.ok c.in_ok-word.ensures.value
     c.in_ok-word.ensures.net (c.in_ok-word.ensures.width ∙ ap (λ o. unwrap_or (option_map (λ (s : Shape). s.width) o) 0) there ∙ sym (width_more c.op.new.self c.args.b.now f20 c.args.ring.value r.value_net.declared ∙ r.value_wide)) c.in_ok-place.ensures.depth c.in_ok-word.ensures.made
+
+pub index_behind-requires : goal.index_behind-requires
+index_behind-requires c = record {
+  there = c.requires.ring.index_net;
+  width = c.requires.ring.index_wide;
+  wide = c.requires.ring.bits_wide;
+  fits = c.requires.ring.fits;
+  some = c.requires.some;
+  short = c.requires.short;
+}
