@@ -2,8 +2,10 @@ pub mod First
 pub mod Rules
 pub mod Orders
 pub mod Numbering
+pub mod Ages
 pub mod Flows
 pub mod Holding
 pub mod Sums
 pub mod Judging
 pub mod Program
+pub mod Stages
