@@ -1,8 +1,8 @@
 -- Delays of the kept images, by their place in order, and the system of constraints on them.
-use Rattle.std.specs.Prelude.{◌≡◌, ℕ, ℤ, pos, neg_ℤ, ◌+◌, ◌-◌, ◌*◌, ◌^◌, ◌<◌, ◌≤◌, ◌+ℤ◌, ◌-ℤ◌, ◌*ℤ◌, ◌≤ℤ◌, ◌==◌, if◌then◌else◌, max, unsigned_abs, List, [], ◌∷◌, ◌++◌, length, map, slice_index, slice_index_or, All, sum_by}
+use Rattle.std.specs.Prelude.{◌≡◌, ◌≢◌, ℕ, ℤ, pos, neg_ℤ, ◌+◌, ◌-◌, ◌*◌, ◌^◌, ◌<◌, ◌≤◌, ◌+ℤ◌, ◌-ℤ◌, ◌*ℤ◌, ◌≤ℤ◌, ◌==◌, if◌then◌else◌, max, unsigned_abs, List, [], ◌∷◌, ◌++◌, length, map, slice_index, slice_index_or, All, sum_by}
 use Rattle.std.specs.List.{enumerate_from, range_with_len}
 use Rattle.dk_base.specs.declared.TheConstants.{MAX_SIDE, MAX_AGE, MAX_WIDTH, MAX_KEPT_IMAGES, MAX_LIVE_READS}
-use Rattle.raster_delay.specs.Network.{Buffer, constraint_at}
+use Rattle.raster_delay.specs.Network.{Buffer, Holds, constraint_at, demanded}
 use Rattle.raster_delay.specs.declared.network.Constraint.{Constraint}
 use Rattle.raster_delay.specs.declared.placed.PlacedRead.{PlacedRead}
 
@@ -82,6 +82,24 @@ buffers_of inputs images widths = map (buffer inputs images) (enumerate_from 0 w
 abbrev pub IsNear : ℤ → Type 0
 IsNear z = (neg_ℤ (pos (2 ^ 24)) ≤ℤ z) × (z ≤ℤ pos (2 ^ 24))
 
+-- the number of inputs and that of kept images
+pub record AreImageCounts (inputs images : ℕ) : Type 0 where
+  -- each input is kept
+  pub kept : inputs ≤ images
+  -- places are of 32 bits
+  pub limit : images < 2 ^ 32
+
+-- a read in a frame of so many columns, between two of the first n images
+pub record IsReadAmong (row n : ℕ) (r : PlacedRead) : Type 0 where
+  -- the columns are within the limit
+  pub row_limit : row ≤ MAX_SIDE
+  -- the pixel that is read is at most 2^24 clocks away
+  pub near : IsNear (offset row r)
+  -- the image that reads is one of them
+  pub reader : r.f < n
+  -- and so is the image that is read
+  pub source : r.g < n
+
 -- images before what reads them, inputs that read nothing, reads in the order of their readers, and numbers within limits
 pub record AreReads (row inputs images : ℕ) (reads : List PlacedRead) : Type 0 where
   pub earlier : All (λ r. r.g < r.f) reads
@@ -89,6 +107,15 @@ pub record AreReads (row inputs images : ℕ) (reads : List PlacedRead) : Type 0
   pub among : All (λ r. r.f < images) reads
   pub near : All (λ r. IsNear (offset row r)) reads
   pub in_order : (i j : ℕ) (d : PlacedRead) → i ≤ j → j < length reads → (slice_index_or reads i d).f ≤ (slice_index_or reads j d).f
+
+-- live reads between the kept images of a system
+pub record AreReadsOf (row inputs images : ℕ) (reads : List PlacedRead) : Type 0 where
+  -- the columns are within the limit
+  pub row_limit : row ≤ MAX_SIDE
+  -- so are the images
+  pub counts : AreImageCounts inputs images
+  -- each read is of an earlier image
+  pub reads_are : AreReads row inputs images reads
 
 -- numbers within the limits of programs
 pub record IsForm (row age inputs images : ℕ) (widths : List ℕ) (reads : List PlacedRead) : Type 0 where
@@ -117,6 +144,55 @@ pub record AreBounded (n : ℕ) (cs : List Constraint) : Type 0 where
   pub no_return : NoReturn cs
   pub count : length cs ≤ 2 ^ 14
 
+-- the number that a constraint needs its target to have, at least, where the others have these numbers
+pub record IsNeeded (numbers : List ℕ) (c : Constraint) (number : ℕ) : Type 0 where
+  -- it is as much as the constraint demands
+  pub enough : demanded numbers c ≤ℤ pos number
+  -- and nothing less is
+  pub least : (n : ℕ) → demanded numbers c ≤ℤ pos n → number ≤ n
+  -- it is not far above the source's number
+  pub near : number ≤ slice_index numbers c.source + 2 ^ 25
+
+-- numbers of nodes, raised as far as some constraints need and no further
+pub record AreRaised (cs : List Constraint) (old new : List ℕ) : Type 0 where
+  -- these constraints hold
+  pub holds : All (Holds new) cs
+  -- no other numbers that satisfy them and are no less than the old ones are less
+  pub least : (d : List ℕ) → All (Holds d) cs → ((v : ℕ) → slice_index old v ≤ slice_index d v) → (v : ℕ) → slice_index new v ≤ slice_index d v
+  -- no number is less than it was
+  pub more : (v : ℕ) → slice_index old v ≤ slice_index new v
+  -- a number changes only at a target
+  pub others : (v : ℕ) → ((i : ℕ) → i < length cs → (constraint_at cs i).target ≢ v) → slice_index new v ≡ slice_index old v
+  -- none is raised by more than 2^39 above the greatest
+  pub near : (m : ℕ) → ((v : ℕ) → slice_index old v ≤ m) → (v : ℕ) → slice_index new v ≤ m + 2 ^ 39
+
+-- the numbers of some nodes, one for each kept image
+pub record AreNumbersOf (node : (k : ℕ) → ℕ) (images : ℕ) (all found : List ℕ) : Type 0 where
+  -- there is one for each image
+  pub length : length found ≡ images
+  -- it is that of the image's node
+  pub numbers : (k : ℕ) → k < images → slice_index found k ≡ slice_index all (node k)
+
 -- every delay is below 2^34
 abbrev pub AreNear : List ℕ → Type 0
 AreNear d = (k : ℕ) → slice_index d k < 2 ^ 34
+
+-- a read of a pixel that came before, by delays that are not too great
+pub record IsHeldRead (row : ℕ) (d : List ℕ) (r : PlacedRead) : Type 0 where
+  -- both its images have a delay
+  pub among : IsReadAmong row (length d) r
+  -- each delay is below 2^34
+  pub small : AreNear d
+  -- the pixel came before or comes at once
+  pub due : pos 0 ≤ℤ age_of row d r
+
+-- the same of each of some reads
+pub record AreHeldReads (row inputs : ℕ) (d : List ℕ) (reads : List PlacedRead) : Type 0 where
+  -- the columns are within the limit
+  pub row_limit : row ≤ MAX_SIDE
+  -- their images have delays
+  pub reads_are : AreReads row inputs (length d) reads
+  -- each delay is below 2^34
+  pub small : AreNear d
+  -- each pixel came before or comes at once
+  pub due : All (λ r. pos 0 ≤ℤ age_of row d r) reads

@@ -7,6 +7,10 @@ use Rattle.raster_delay.specs.declared.network.Constraint.{Constraint}
 abbrev pub Holds : List ℕ → Constraint → Type 0
 Holds p c = (pos (slice_index p c.source) +ℤ c.cost) ≤ℤ pos (slice_index p c.target)
 
+-- the least number that a constraint lets its target have, which may be below 0
+abbrev pub demanded : List ℕ → Constraint → ℤ
+demanded p c = pos (slice_index p c.source) +ℤ c.cost
+
 -- it is just that
 abbrev pub IsTight : List ℕ → Constraint → Type 0
 IsTight p c = pos (slice_index p c.source) +ℤ c.cost ≡ pos (slice_index p c.target)

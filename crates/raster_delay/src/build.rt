@@ -1,8 +1,7 @@
 // The constraints of a system, in the order of their kinds.
 
-ghost use Rattle.std.specs.Prelude.{◌≡◌, ◌≤◌, ◌<◌, ◌^◌, ◌++◌, IfOk, OnOk, map};
-ghost use Rattle.dk_base.specs.declared.TheConstants.{MAX_SIDE};
-ghost use Rattle.raster_delay.specs.Delays.{AreReads, IsNear, offset, begin_of, end_of, hold, start, read, keep, holds_of, starts_of, constraints_of};
+ghost use Rattle.std.specs.Prelude.{◌≡◌, ◌<◌, ◌^◌, ◌++◌, IfOk, OnOk, map};
+ghost use Rattle.raster_delay.specs.Delays.{AreImageCounts, AreReadsOf, IsReadAmong, begin_of, end_of, hold, start, read, keep, holds_of, starts_of, constraints_of};
 
 use crate::network::Constraint;
 use crate::placed::{PlacedRead, offset};
@@ -19,8 +18,7 @@ pub fn begin_node(inputs: usize, k: usize) -> usize
 
 /// The node at which the image at place `k` ends.
 pub fn end_node(inputs: usize, images: usize, k: usize) -> usize
-    requires inputs { inputs ≤ images }
-    requires images { images < 2 ^ 32 }
+    requires counts { AreImageCounts inputs images }
     requires place { k < 2 ^ 32 }
     ensures { result ≡ end_of inputs images k }
 {
@@ -29,8 +27,7 @@ pub fn end_node(inputs: usize, images: usize, k: usize) -> usize
 
 /// The constraint of kind hold of the image at place `k`: it ends no earlier than it begins.
 pub fn hold_constraint(inputs: usize, images: usize, k: usize) -> Constraint
-    requires inputs { inputs ≤ images }
-    requires images { images < 2 ^ 32 }
+    requires counts { AreImageCounts inputs images }
     requires place { k < images }
     ensures { result ≡ hold inputs images k }
 {
@@ -55,10 +52,7 @@ pub fn start_constraint(inputs: usize, k: usize) -> Constraint
 
 /// The constraint of kind read of a live read: its age is at least `age` clocks. A frame has `row` columns.
 pub fn read_constraint(row: u32, age: u8, inputs: usize, r: PlacedRead) -> Constraint
-    requires row { row ≤ MAX_SIDE }
-    requires near { IsNear (offset row r) }
-    requires reader { r.f < 2 ^ 32 }
-    requires earlier { r.g < 2 ^ 32 }
+    requires { IsReadAmong row (2 ^ 32) r }
     ensures { result ≡ read row age inputs r }
 {
     let least = offset(row, r) + i64::from(age);
@@ -71,12 +65,8 @@ pub fn read_constraint(row: u32, age: u8, inputs: usize, r: PlacedRead) -> Const
 
 /// The constraint of kind keep of a live read: its age is at most the depth of what is read. A frame has `row` columns.
 pub fn keep_constraint(row: u32, inputs: usize, images: usize, r: PlacedRead) -> Constraint
-    requires row { row ≤ MAX_SIDE }
-    requires near { IsNear (offset row r) }
-    requires inputs { inputs ≤ images }
-    requires images { images < 2 ^ 32 }
-    requires reader { r.f < 2 ^ 32 }
-    requires earlier { r.g < 2 ^ 32 }
+    requires counts { AreImageCounts inputs images }
+    requires within { IsReadAmong row (2 ^ 32) r }
     ensures { result ≡ keep row inputs images r }
 {
     let most = -offset(row, r);
@@ -88,8 +78,7 @@ pub fn keep_constraint(row: u32, inputs: usize, images: usize, r: PlacedRead) ->
 }
 
 fn add_holds(all: &mut Vec<Constraint>, inputs: usize, images: usize) -> Result<(), OutOfMemory>
-    requires inputs { inputs ≤ images }
-    requires images { images < 2 ^ 32 }
+    requires { AreImageCounts inputs images }
     ensures { OnOk result (all.new.items ≡ all.old.items ++ holds_of inputs images) }
 {
     for k in 0..images {
@@ -99,8 +88,7 @@ fn add_holds(all: &mut Vec<Constraint>, inputs: usize, images: usize) -> Result<
 }
 
 fn add_starts(all: &mut Vec<Constraint>, inputs: usize, images: usize) -> Result<(), OutOfMemory>
-    requires inputs { inputs ≤ images }
-    requires images { images < 2 ^ 32 }
+    requires { AreImageCounts inputs images }
     ensures { OnOk result (all.new.items ≡ all.old.items ++ starts_of inputs images) }
 {
     for k in inputs..images {
@@ -117,9 +105,7 @@ fn add_reads(
     images: usize,
     reads: &[PlacedRead],
 ) -> Result<(), OutOfMemory>
-    requires row { row ≤ MAX_SIDE }
-    requires images { images < 2 ^ 32 }
-    requires reads { AreReads row inputs images reads.now }
+    requires { AreReadsOf row inputs images reads.now }
     ensures { OnOk result (all.new.items ≡ all.old.items ++ map (read row age inputs) reads.now) }
 {
     for r in reads {
@@ -135,11 +121,9 @@ fn add_keeps(
     images: usize,
     reads: &[PlacedRead],
 ) -> Result<(), OutOfMemory>
-    requires row { row ≤ MAX_SIDE }
-    requires inputs { inputs ≤ images }
-    requires images { images < 2 ^ 32 }
-    requires reads { AreReads row inputs images reads.now }
-    ensures { OnOk result (all.new.items ≡ all.old.items ++ map (keep row inputs images) reads.now) }
+    requires { AreReadsOf row inputs images reads.now }
+    ensures { OnOk result (all.new.items
+        ≡ all.old.items ++ map (keep row inputs images) reads.now) }
 {
     for r in reads {
         all.push(keep_constraint(row, inputs, images, *r))?;
@@ -156,10 +140,7 @@ pub fn constraints(
     images: usize,
     reads: &[PlacedRead],
 ) -> Result<Vec<Constraint>, OutOfMemory>
-    requires row { row ≤ MAX_SIDE }
-    requires inputs { inputs ≤ images }
-    requires images { images < 2 ^ 32 }
-    requires reads { AreReads row inputs images reads.now }
+    requires { AreReadsOf row inputs images reads.now }
     ensures { IfOk result (λ v. v.items ≡ constraints_of row age inputs images reads.now) }
 {
     let mut all = Vec::new(alloc);

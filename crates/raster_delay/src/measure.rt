@@ -3,9 +3,9 @@
 ghost use Rattle.std.specs.Prelude.{◌≡◌, ◌≢◌, max, ◌≤◌, ◌<◌, ◌^◌, ◌↔◌, ◌==◌, if◌then◌else◌, ℕ, pos, ◌-ℤ◌, ◌≤ℤ◌, IsTrue, unsigned_abs, length, slice_index, All};
 ghost use Rattle.dk_base.specs.declared.TheConstants.{MAX_SIDE, MAX_KEPT_IMAGES};
 ghost use Rattle.raster_delay.specs.Network.{coefficient};
-ghost use Rattle.raster_delay.specs.Delays.{IsNear, AreReads, AreNear, offset, age_of, depth_of, bits_of, buffers_of};
+ghost use Rattle.raster_delay.specs.Delays.{AreHeldReads, AreNear, AreReads, IsHeldRead, IsNear, IsReadAmong, offset, age_of, depth_of, buffers_of};
 ghost use Rattle.raster_delay.specs.Placing.{widths_of};
-ghost use Rattle.raster_delay.specs.Systems.{IsCausal, depth, bits, image_count};
+ghost use Rattle.raster_delay.specs.Systems.{IsCausal, depth, bits};
 
 use crate::build::{begin_node, end_node};
 use crate::placed::{PlacedRead, offset};
@@ -23,10 +23,7 @@ pub fn age(row: u32, reader: u64, source: u64, r: PlacedRead) -> i128
 
 // How old a read is by the delays of all kept images.
 fn age_among(row: u32, delays: &[u64], r: PlacedRead) -> i128
-    requires row { row ≤ MAX_SIDE }
-    requires near { IsNear (offset row r) }
-    requires reader { r.f < length delays.now }
-    requires earlier { r.g < length delays.now }
+    requires { IsReadAmong row (length delays.now) r }
     ensures { result ≡ age_of row delays.now r }
 {
     age(row, delays[r.f], delays[r.g], r)
@@ -34,10 +31,7 @@ fn age_among(row: u32, delays: &[u64], r: PlacedRead) -> i128
 
 // Whether a read is at least so old.
 fn is_due(row: u32, least: u8, delays: &[u64], r: PlacedRead) -> bool
-    requires row { row ≤ MAX_SIDE }
-    requires near { IsNear (offset row r) }
-    requires reader { r.f < length delays.now }
-    requires earlier { r.g < length delays.now }
+    requires { IsReadAmong row (length delays.now) r }
     ensures { IsTrue result ↔ (pos least ≤ℤ age_of row delays.now r) }
 {
     age_among(row, delays, r) >= i128::from(least)
@@ -108,12 +102,7 @@ pub fn causal(system: &System, delays: &[u64]) -> bool
 
 // The greatest of an age and of a read's age, where the read is of the image at place `g`.
 fn deeper(row: u32, delays: &[u64], r: PlacedRead, g: usize, greatest: u64) -> u64
-    requires row { row ≤ MAX_SIDE }
-    requires near { IsNear (offset row r) }
-    requires reader { r.f < length delays.now }
-    requires earlier { r.g < length delays.now }
-    requires small { AreNear delays.now }
-    requires due { pos 0 ≤ℤ age_of row delays.now r }
+    requires { IsHeldRead row delays.now r }
     ensures of_it { r.g ≡ g → result ≡ max greatest (unsigned_abs (age_of row delays.now r)) }
     ensures of_others { r.g ≢ g → result ≡ greatest }
     ensures near { greatest ≤ 2 ^ 35 → result ≤ 2 ^ 35 }
@@ -127,10 +116,7 @@ fn deeper(row: u32, delays: &[u64], r: PlacedRead, g: usize, greatest: u64) -> u
 
 // The greatest age of a read of the image at place `g`, 0 without any.
 fn depth_among(row: u32, inputs: usize, delays: &[u64], reads: &[PlacedRead], g: usize) -> u64
-    requires row { row ≤ MAX_SIDE }
-    requires reads { AreReads row inputs (length delays.now) reads.now }
-    requires small { AreNear delays.now }
-    requires due { All (λ r. pos 0 ≤ℤ age_of row delays.now r) reads.now }
+    requires { AreHeldReads row inputs delays.now reads.now }
     ensures value { result ≡ depth_of row delays.now reads.now g }
     ensures near { result ≤ 2 ^ 35 }
 {
@@ -186,7 +172,8 @@ fn amount(at: usize, width: u8, node: usize) -> i64
 pub fn coefficient(inputs: usize, images: &[Image], node: usize) -> i64
     requires inputs { inputs ≤ length images.now }
     requires images { length images.now ≤ MAX_KEPT_IMAGES }
-    ensures { result ≡ coefficient (buffers_of inputs (length images.now) (widths_of images.now)) node }
+    ensures { result
+        ≡ coefficient (buffers_of inputs (length images.now) (widths_of images.now)) node }
 {
     let mut sum: i64 = 0;
     for k in 0..images.len() {

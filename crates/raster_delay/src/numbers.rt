@@ -1,9 +1,8 @@
 // The causal delays that are least in every place, and numbers of all nodes that keep each constraint.
 
-ghost use Rattle.std.specs.Prelude.{◌≡◌, ◌≢◌, ◌≤◌, ◌<◌, ◌+◌, ◌^◌, ◌+ℤ◌, ◌≤ℤ◌, ℕ, pos, List, length, slice_index, All, IfOk};
-ghost use Rattle.raster_delay.specs.Network.{Holds, constraint_at};
-ghost use Rattle.raster_delay.specs.Delays.{IsSmall, AreBounded, AreNear, begin_of, end_of};
-ghost use Rattle.raster_delay.specs.Systems.{IsCausal, constraints_in, image_count, nodes};
+ghost use Rattle.std.specs.Prelude.{◌≡◌, ◌≤◌, ◌<◌, ◌^◌, ℕ, length, slice_index, IfOk};
+ghost use Rattle.raster_delay.specs.Delays.{AreBounded, AreRaised, IsNeeded, IsSmall};
+ghost use Rattle.raster_delay.specs.Systems.{AreBegins, AreEarliestDelays, AreEarliestNumbers, AreEnds, nodes};
 
 use crate::build::{begin_node, end_node};
 use crate::network::Constraint;
@@ -16,9 +15,7 @@ fn needed(constraint: Constraint, numbers: &[u64]) -> u64
     requires source { constraint.source < length numbers.now }
     requires cost { IsSmall constraint }
     requires number { slice_index numbers.now constraint.source < 2 ^ 60 }
-    ensures enough { (pos (slice_index numbers.now constraint.source) +ℤ constraint.cost) ≤ℤ pos result }
-    ensures least { (n : ℕ) → (pos (slice_index numbers.now constraint.source) +ℤ constraint.cost) ≤ℤ pos n → result ≤ n }
-    ensures near { result ≤ slice_index numbers.now constraint.source + 2 ^ 25 }
+    ensures { IsNeeded numbers.now constraint result }
 {
     let source = numbers[constraint.source] as i64;
     let least = source + constraint.cost;
@@ -29,13 +26,7 @@ fn needed(constraint: Constraint, numbers: &[u64]) -> u64
 fn relax(constraints: &[Constraint], numbers: &mut [u64])
     requires bounds { AreBounded (length numbers.old) constraints.now }
     requires numbers { (v : ℕ) → slice_index numbers.old v ≤ 2 ^ 41 }
-    ensures holds { All (Holds numbers.new) constraints.now }
-    ensures least { (d : List ℕ) → All (Holds d) constraints.now → ((v : ℕ) → slice_index numbers.old v ≤ slice_index d v)
-        → (v : ℕ) → slice_index numbers.new v ≤ slice_index d v }
-    ensures more { (v : ℕ) → slice_index numbers.old v ≤ slice_index numbers.new v }
-    ensures others { (v : ℕ) → ((i : ℕ) → i < length constraints.now → (constraint_at constraints.now i).target ≢ v)
-        → slice_index numbers.new v ≡ slice_index numbers.old v }
-    ensures near { (m : ℕ) → ((v : ℕ) → slice_index numbers.old v ≤ m) → (v : ℕ) → slice_index numbers.new v ≤ m + 2 ^ 39 }
+    ensures { AreRaised constraints.now numbers.old numbers.new }
 {
     for i in 0..constraints.len() {
         let c = constraints[i];
@@ -48,10 +39,7 @@ fn relax(constraints: &[Constraint], numbers: &mut [u64])
 fn raise_numbers(system: &System, numbers: &mut [u64])
     requires size { length numbers.old ≡ nodes system.now }
     requires zero { (v : ℕ) → slice_index numbers.old v ≡ 0 }
-    ensures holds { All (Holds numbers.new) (constraints_in system.now) }
-    ensures zero { slice_index numbers.new 0 ≡ 0 }
-    ensures least { (p : List ℕ) → All (Holds p) (constraints_in system.now) → (v : ℕ) → slice_index numbers.new v ≤ slice_index p v }
-    ensures near { (v : ℕ) → slice_index numbers.new v ≤ 2 ^ 41 }
+    ensures { AreEarliestNumbers system.now numbers.new }
 {
     system.law();
     relax(system.read_constraints(), numbers);
@@ -61,12 +49,7 @@ fn raise_numbers(system: &System, numbers: &mut [u64])
 
 /// The numbers of the nodes that are the least in every place of those that keep each constraint: the earliest delays, and these with their depths.
 pub fn earliest_numbers(alloc: Global, system: &System) -> Result<Vec<u64>, OutOfMemory>
-    ensures length { IfOk result (λ numbers. length numbers.items ≡ nodes system.now) }
-    ensures holds { IfOk result (λ numbers. All (Holds numbers.items) (constraints_in system.now)) }
-    ensures zero { IfOk result (λ numbers. slice_index numbers.items 0 ≡ 0) }
-    ensures least { IfOk result (λ numbers. (p : List ℕ) → All (Holds p) (constraints_in system.now) → (v : ℕ)
-        → slice_index numbers.items v ≤ slice_index p v) }
-    ensures near { IfOk result (λ numbers. (v : ℕ) → slice_index numbers.items v ≤ 2 ^ 41) }
+    ensures { IfOk result (λ numbers. AreEarliestNumbers system.now numbers.items) }
 {
     let mut numbers = vec![in alloc; 0u64; system.nodes()]?;
     raise_numbers(system, &mut numbers);
@@ -80,9 +63,7 @@ pub fn begin_numbers(
     numbers: &[u64],
 ) -> Result<Vec<u64>, OutOfMemory>
     requires { length numbers.now ≡ nodes system.now }
-    ensures length { IfOk result (λ delays. length delays.items ≡ image_count system.now) }
-    ensures numbers { IfOk result (λ delays. (k : ℕ) → k < image_count system.now
-        → slice_index delays.items k ≡ slice_index numbers.now (begin_of system.now.stencils.inputs k)) }
+    ensures { IfOk result (λ delays. AreBegins system.now numbers.now delays.items) }
 {
     system.law();
     let inputs = system.inputs();
@@ -96,9 +77,7 @@ pub fn begin_numbers(
 /// The numbers of the nodes at which the kept images end, one for each image in order.
 pub fn end_numbers(alloc: Global, system: &System, numbers: &[u64]) -> Result<Vec<u64>, OutOfMemory>
     requires { length numbers.now ≡ nodes system.now }
-    ensures length { IfOk result (λ ends. length ends.items ≡ image_count system.now) }
-    ensures numbers { IfOk result (λ ends. (k : ℕ) → k < image_count system.now
-        → slice_index ends.items k ≡ slice_index numbers.now (end_of system.now.stencils.inputs (image_count system.now) k)) }
+    ensures { IfOk result (λ ends. AreEnds system.now numbers.now ends.items) }
 {
     system.law();
     let inputs = system.inputs();
@@ -112,9 +91,7 @@ pub fn end_numbers(alloc: Global, system: &System, numbers: &[u64]) -> Result<Ve
 
 /// The causal delays that are least in every place among all causal delays, one for each kept image in order, in clocks.
 pub fn earliest(alloc: Global, system: &System) -> Result<Vec<u64>, OutOfMemory>
-    ensures causal { IfOk result (λ delays. IsCausal system.now delays.items) }
-    ensures least { IfOk result (λ delays. (d : List ℕ) → IsCausal system.now d → (k : ℕ) → slice_index delays.items k ≤ slice_index d k) }
-    ensures near { IfOk result (λ delays. AreNear delays.items) }
+    ensures { IfOk result (λ delays. AreEarliestDelays system.now delays.items) }
 {
     system.law();
     let numbers = earliest_numbers(alloc, system)?;

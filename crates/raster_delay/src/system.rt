@@ -36,10 +36,9 @@ impl Model for System {
 }
 
 impl System {
-    ghost use Rattle.std.specs.Prelude.{◌≡◌, ◌≤◌, ◌<◌, IfOk, All, map};
+    ghost use Rattle.std.specs.Prelude.{◌≡◌, ◌≤◌, ◌<◌, IfOk, All};
     ghost use Rattle.dk_base.specs.declared.TheConstants.{MAX_AGE};
-    ghost use Rattle.raster_delay.specs.Delays.{holds_of, read, keep, begin_count, AreBounded};
-    ghost use Rattle.raster_delay.specs.Systems.{IsSystem, image_count, placed_reads, constraints_in, nodes, coefficient_in};
+    ghost use Rattle.raster_delay.specs.Systems.{IsSystem, LeadOnward, LeadToEnds, coefficient_in, constraints_in, holds_in, keeps_in, nodes, placed_reads, reads_in};
 
     /// The system of these stencils, in which each age is at least 0.
     pub fn of(alloc: Global, stencils: &Stencils) -> Result<System, OutOfMemory>
@@ -168,9 +167,7 @@ impl System {
 
     // The constraints from where each image begins to where it ends.
     pub(crate) fn hold_constraints(&self) -> &[Constraint]
-        ensures items { result.now ≡ holds_of self.now.stencils.inputs (image_count self.now) }
-        ensures ends { All (λ c. begin_count self.now.stencils.inputs (image_count self.now) ≤ c.target) result.now }
-        ensures bounds { AreBounded (nodes self.now) result.now }
+        ensures { LeadToEnds self.now (holds_in self.now) result.now }
     {
         self.law();
         let images = self.images().len();
@@ -180,9 +177,7 @@ impl System {
 
     // The constraints from what is read to what reads it.
     pub(crate) fn read_constraints(&self) -> &[Constraint]
-        ensures items { result.now ≡ map (read self.now.stencils.width self.now.age self.now.stencils.inputs) (placed_reads self.now) }
-        ensures later { All (λ c. 0 < c.target) result.now }
-        ensures bounds { AreBounded (nodes self.now) result.now }
+        ensures { LeadOnward self.now (reads_in self.now) result.now }
     {
         self.law();
         let images = self.images().len();
@@ -194,9 +189,7 @@ impl System {
 
     // The constraints from what reads an image to where that ends.
     pub(crate) fn keep_constraints(&self) -> &[Constraint]
-        ensures items { result.now ≡ map (keep self.now.stencils.width self.now.stencils.inputs (image_count self.now)) (placed_reads self.now) }
-        ensures ends { All (λ c. begin_count self.now.stencils.inputs (image_count self.now) ≤ c.target) result.now }
-        ensures bounds { AreBounded (nodes self.now) result.now }
+        ensures { LeadToEnds self.now (keeps_in self.now) result.now }
     {
         self.law();
         let images = self.images().len();

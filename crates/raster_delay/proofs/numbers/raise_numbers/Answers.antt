@@ -25,34 +25,8 @@ pub relax-requires-3-clause-numbers : goal.relax-requires-3-clause-numbers
 relax-requires-3-clause-numbers c = λ v.
     omega (arith, c.relax-2.ensures.near (2 ^ 39) (λ u. omega (arith, c.relax.ensures.near 0 (λ w. omega (arith, c.requires.zero w)) u)) v)
 
-pub returns-clause-near : goal.returns-clause-near
-returns-clause-near c = λ v.
-    omega (
-      arith,
-      c.relax-3.ensures.near (2 ^ 39 + 2 ^ 39)
-          (λ t. omega (arith, c.relax-2.ensures.near (2 ^ 39) (λ u. omega (arith, c.relax.ensures.near 0 (λ w. omega (arith, c.requires.zero w)) u)) t)) v,
-    )
-
-pub returns-clause-zero : goal.returns-clause-zero
-returns-clause-zero c =
-    let s = c.args.system.now in
-    let form = system_form s c.law.ensures in
-    let none : Constraint = record { source = 0; target = 0; cost = pos 0 } in
-    c.relax-3.ensures.others 0 (λ i lt e. omega (arith, c.keep_constraints.ensures.ends i none lt, form.inputs_kept, e))
-    ∙ c.relax-2.ensures.others 0 (λ i lt e. omega (arith, c.hold_constraints.ensures.ends i none lt, form.inputs_kept, e))
-    ∙ c.relax.ensures.others 0 (λ i lt e. omega (arith, c.read_constraints.ensures.later i none lt, e))
-    ∙ c.requires.zero 0
-
-pub returns-clause-least : goal.returns-clause-least
-returns-clause-least c = λ p holds.
-    let s = c.args.system.now in
-    let parts = holds_parts s.stencils.width s.age s.stencils.inputs (image_count s) (placed_reads s) p holds in
-    let first = c.relax.ensures.least p (rw c.read_constraints.ensures.items parts.reads_hold) (λ v. omega (arith, c.requires.zero v)) in
-    let second = c.relax-2.ensures.least p (rw c.hold_constraints.ensures.items parts.holds_hold) first in
-    c.relax-3.ensures.least p (rw c.keep_constraints.ensures.items parts.keeps_hold) second
-
-pub returns-clause-holds : goal.returns-clause-holds
-returns-clause-holds c =
+pub returns : goal.returns
+returns c =
     let s = c.args.system.now in
     let form = system_form s c.law.ensures in
     let w = s.stencils.width in
@@ -73,4 +47,18 @@ returns-clause-holds c =
     let some : 0 < begin_count inputs images = omega (arith, form.inputs_kept) in
     let zero_at : slice_index p3 0 ≡ 0 = second 0 some ∙ first 0 some
     ∙ c.relax.ensures.others 0 (λ i lt e. omega (arith, c.read_constraints.ensures.later i none lt, e)) ∙ c.requires.zero 0 in
-    raised_hold w s.age inputs images reads form.reads_are form.inputs_kept p1 p2 p3 reads_hold holds_hold keeps_hold (λ v h. second v h ∙ first v h) second c.relax-3.ensures.more zero_at
+    record {
+      length = c.relax-3.auto.numbers ∙ c.relax-2.auto.numbers ∙ c.relax.auto.numbers ∙ c.requires.size;
+      holds = raised_hold w s.age inputs images reads form.reads_are form.inputs_kept p1 p2 p3 reads_hold holds_hold keeps_hold (λ v h. second v h ∙ first v h) second c.relax-3.ensures.more zero_at;
+      zero = zero_at;
+      least = λ p holds.
+          let parts = holds_parts w s.age inputs images reads p holds in
+          let one = c.relax.ensures.least p (rw c.read_constraints.ensures.items parts.reads_hold) (λ v. omega (arith, c.requires.zero v)) in
+          let two = c.relax-2.ensures.least p (rw c.hold_constraints.ensures.items parts.holds_hold) one in
+          c.relax-3.ensures.least p (rw c.keep_constraints.ensures.items parts.keeps_hold) two;
+      near = λ v. omega (
+        arith,
+        c.relax-3.ensures.near (2 ^ 39 + 2 ^ 39)
+            (λ t. omega (arith, c.relax-2.ensures.near (2 ^ 39) (λ u. omega (arith, c.relax.ensures.near 0 (λ w. omega (arith, c.requires.zero w)) u)) t)) v,
+      );
+    }

@@ -29,15 +29,18 @@ loop-i-preserved c =
           ∙ invariant.others v (λ k le. differs k (omega arith));
     }
 
-pub returns-clause-holds : goal.returns-clause-holds
-returns-clause-holds c =
-    let end : length c.args.constraints.now ≤ c.loop-i.i = omega arith in
-    All-from_get_or (Holds c.loop-i.numbers) c.args.constraints.now (record { source = 0; target = 0; cost = pos 0 }) (λ k h. c.loop-i.invariant.holds k (omega arith))
-
 pub needed-least-requires-clause-number : goal.needed-least-requires-clause-number
 needed-least-requires-clause-number c =
     let i : c.loop-i.i ≤ 2 ^ 14 = omega arith in
     omega (arith, i, c.loop-i.invariant.near (2 ^ 41) c.requires.numbers (constraint_at c.args.constraints.now c.loop-i.i).source)
 
-pub returns-clause-near : goal.returns-clause-near
-returns-clause-near c = λ m below v. omega (arith, c.loop-i.invariant.near m below v)
+pub returns : goal.returns
+returns c =
+    let end : length c.args.constraints.now ≤ c.loop-i.i = omega arith in
+    record {
+      holds = All-from_get_or (Holds c.loop-i.numbers) c.args.constraints.now (record { source = 0; target = 0; cost = pos 0 }) (λ k h. c.loop-i.invariant.holds k (omega arith));
+      least = c.loop-i.invariant.least;
+      more = c.loop-i.invariant.more;
+      others = λ v differs. c.loop-i.invariant.others v (λ k le. differs k (omega arith));
+      near = λ m below v. omega (arith, c.loop-i.invariant.near m below v);
+    }
