@@ -44,13 +44,6 @@ pub record IsGreatest (s : System) (p flow : List ℕ) : Type 0 where
   -- the flow is balanced
   pub balanced : IsBalanced s flow
 
--- The number of one node for each kept image.
-pub record AreOfNodes (s : System) (node_of : ℕ → ℕ) (p xs : List ℕ) : Type 0 where
-  -- there is one for each
-  pub one_each : length xs ≡ image_count s
-  -- it is that of the image's node
-  pub numbers : (k : ℕ) → k < image_count s → slice_index xs k ≡ slice_index p (node_of k)
-
 -- numbers of the nodes and a flow: the numbers keep the constraints, the flow is balanced and only on tight constraints, and the numbers are the least that suit it
 pub record IsOptimum (s : System) (p flow : List ℕ) : Type 0 where
   pub one_each : length p ≡ nodes s

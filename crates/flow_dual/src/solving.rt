@@ -1,9 +1,8 @@
 // The least vector of least bits, and a flow that shows them least.
 
 ghost use Rattle.std.specs.Prelude.{◌≡◌, length, IfOk, OnOk};
-ghost use Rattle.raster_delay.specs.Delays.{begin_of, end_of};
-ghost use Rattle.raster_delay.specs.Systems.{image_count, nodes};
-ghost use Rattle.flow_dual.specs.Solutions.{AreOfNodes, IsGreatest, IsOptimum, IsSolution, IsStart};
+ghost use Rattle.raster_delay.specs.Systems.{AreBegins, AreEnds, nodes};
+ghost use Rattle.flow_dual.specs.Solutions.{IsGreatest, IsOptimum, IsSolution, IsStart};
 
 use crate::checking::is_optimal;
 use crate::sending::send_all;
@@ -65,8 +64,7 @@ fn balance(
 // The delays among numbers of the nodes.
 fn delays_among(alloc: Global, system: &System, numbers: &[u64]) -> Result<Numbers, OutOfMemory>
     requires { length numbers.now ≡ nodes system.now }
-    ensures { IfOk result
-        (AreOfNodes system.now (begin_of system.now.stencils.inputs) numbers.now) }
+    ensures { IfOk result (λ delays. AreBegins system.now numbers.now delays) }
 {
     let delays = begin_numbers(alloc, system, numbers)?;
     Ok(Numbers::new(delays))
@@ -75,8 +73,7 @@ fn delays_among(alloc: Global, system: &System, numbers: &[u64]) -> Result<Numbe
 // The ends among numbers of the nodes.
 fn ends_among(alloc: Global, system: &System, numbers: &[u64]) -> Result<Numbers, OutOfMemory>
     requires { length numbers.now ≡ nodes system.now }
-    ensures { IfOk result (AreOfNodes system.now
-        (end_of system.now.stencils.inputs (image_count system.now)) numbers.now) }
+    ensures { IfOk result (λ ends. AreEnds system.now numbers.now ends) }
 {
     let ends = end_numbers(alloc, system, numbers)?;
     Ok(Numbers::new(ends))

@@ -2,7 +2,6 @@ pub mod First
 pub mod Rules
 pub mod Orders
 pub mod Numbering
-pub mod Ages
 pub mod Flows
 pub mod Holding
 pub mod Sums

@@ -1,8 +1,7 @@
 // The ages of live reads by printed delays, which may be any numbers of 64 bits.
 
 ghost use Rattle.std.specs.Prelude.{◌≡◌, ◌↔◌, max, [], ◌∷◌, IsTrue, length, All};
-ghost use Rattle.raster_delay.specs.Delays.{age_of, depth_of};
-ghost use Rattle.plan_check.specs.Ages.{HasAge, HaveAges};
+ghost use Rattle.raster_delay.specs.Delays.{AreReadsOf, IsReadAmong, age_of, depth_of};
 ghost use Rattle.plan_check.specs.Holding.{IsOldOf, delays_of};
 
 use raster_delay::{PlacedRead, age};
@@ -10,7 +9,7 @@ use report_text::ImageLine;
 
 // How old a read is by the printed delays.
 fn printed_age(row: u32, images: &[ImageLine], r: PlacedRead) -> i128
-    requires { HasAge row (length images.now) r }
+    requires { IsReadAmong row (length images.now) r }
     ensures { result ≡ age_of row (delays_of images.now) r }
 {
     age(row, images[r.f].delay, images[r.g].delay, r)
@@ -18,7 +17,7 @@ fn printed_age(row: u32, images: &[ImageLine], r: PlacedRead) -> i128
 
 // Whether a read is at least so old, where it is of the image at place `g`.
 fn is_old(row: u32, least: u8, images: &[ImageLine], r: PlacedRead, g: usize) -> bool
-    requires { HasAge row (length images.now) r }
+    requires { IsReadAmong row (length images.now) r }
     ensures { IsTrue result ↔ IsOldOf row least (delays_of images.now) g r }
 {
     if r.g != g {
@@ -36,7 +35,7 @@ pub(crate) fn are_old(
     reads: &[PlacedRead],
     g: usize,
 ) -> bool
-    requires { HaveAges row inputs (length images.now) reads.now }
+    requires { AreReadsOf row inputs (length images.now) reads.now }
     ensures { IsTrue result ↔ All (IsOldOf row least (delays_of images.now) g) reads.now }
 {
     for r in reads {
@@ -49,7 +48,7 @@ pub(crate) fn are_old(
 
 // The greatest of an age and of a read's age, where the read is of the image at place `g`.
 fn deeper(row: u32, images: &[ImageLine], r: PlacedRead, g: usize, greatest: u128) -> u128
-    requires { HasAge row (length images.now) r }
+    requires { IsReadAmong row (length images.now) r }
     ensures { result ≡ max greatest (depth_of row (delays_of images.now) (r ∷ []) g) }
 {
     if r.g == g {
@@ -67,7 +66,7 @@ pub(crate) fn depth(
     reads: &[PlacedRead],
     g: usize,
 ) -> u128
-    requires { HaveAges row inputs (length images.now) reads.now }
+    requires { AreReadsOf row inputs (length images.now) reads.now }
     ensures { result ≡ depth_of row (delays_of images.now) reads.now g }
 {
     let mut greatest: u128 = 0;

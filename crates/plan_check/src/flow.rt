@@ -2,10 +2,10 @@
 
 ghost use Rattle.std.specs.Prelude.{◌≡◌, ◌≤◌, ◌<◌, ◌^◌, ◌↔◌, ℕ, pos, neg_ℤ, ◌-ℤ◌, ◌≤ℤ◌, length, slice_index, Contains, IsTrue};
 ghost use Rattle.raster_delay.specs.Network.{worth};
+ghost use Rattle.raster_delay.specs.Delays.{IsReadAmong};
 ghost use Rattle.raster_delay.specs.Systems.{image_count, placed_reads, coefficient_in};
 ghost use Rattle.plan_check.specs.Flows.{amount_of};
 ghost use Rattle.plan_check.specs.Holding.{HasConstraint, FlowHolds};
-ghost use Rattle.plan_check.specs.Ages.{HasAge};
 ghost use Rattle.plan_check.specs.Sums.{AddsAt, AreEven, AreFlowLines, AreSums, IsBounded, IsLimited, IsPrice, SumsHold, amounts, carriers, constraint_of, inflow_of, outflow_of};
 
 use crate::lines::named;
@@ -21,7 +21,7 @@ const MOST_NODES: usize = 528;
 // What a system's limits say of a live read.
 fn read_law(system: &System, r: PlacedRead)
     requires { Contains (placed_reads system.now) r }
-    ensures { HasAge system.now.stencils.width (image_count system.now) r }
+    ensures { IsReadAmong system.now.stencils.width (image_count system.now) r }
 {
     system.law();
 }

@@ -6,7 +6,7 @@ pub returns : goal.returns
 returns c =
     let s = c.args.system.now in
     record {
-      row = (system_form s c.law.ensures).row_limit;
+      row_limit = (system_form s c.law.ensures).row_limit;
       near = is_near s c.law.ensures c.args.r c.requires;
       reader = reader_kept s c.law.ensures c.args.r c.requires;
       source = source_kept s c.law.ensures c.args.r c.requires;
