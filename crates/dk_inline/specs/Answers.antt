@@ -1,5 +1,5 @@
 -- What inlining answers: a program that means the same, or the first limit that is passed.
-use Rattle.std.specs.Prelude.{◌≡◌, ◌↔◌, ℕ, ◌<◌, ◌≤◌, min, ℤ, List, ◌++◌, map}
+use Rattle.std.specs.Prelude.{◌≡◌, ◌↔◌, ℕ, ◌<◌, ◌≤◌, min, ℤ, List, length, ◌++◌, map}
 use Rattle.dk_base.specs.declared.TheConstants.{MAX_NODES}
 use Rattle.dk_base.specs.Frames.{Picture}
 use Rattle.dk_types.specs.Typed.{Definition, Typing, types_of}
@@ -18,6 +18,13 @@ use Rattle.dk_inline.specs.Nodes.{node_count, IsDeep, IsFirstDeep}
 -- of all images, the inputs first
 abbrev pub image_names : Typing → List (List ℕ)
 image_names p = map (λ i. i.name.text) p.inputs ++ map (λ (d : Definition). d.name.text) p.definitions
+
+-- The program has an input and an output.
+pub record HasPorts (p : Typing) : Type 0 where
+  -- an input
+  pub some_inputs : 1 ≤ length p.inputs
+  -- an output
+  pub some_outputs : 1 ≤ length p.outputs
 
 -- the program is within both limits
 pub record IsWithin (p : Typing) : Type 0 where

@@ -1,6 +1,6 @@
 -- Used by private functions only.
 -- Sizes of expressions, as they are counted.
-use Rattle.std.specs.Prelude.{◌≡◌, ℕ, min, List, length, slice_get, slice_index_or, Option, Some, None}
+use Rattle.std.specs.Prelude.{◌≡◌, ℕ, ◌<◌, min, List, length, slice_get, slice_index_or, Option, Some, None}
 use Rattle.dk_types.specs.Typed.{Definition, Typing}
 use Rattle.pointwise_ir.specs.Trees.{Tree, depth_of}
 use Rattle.dk_inline.specs.declared.extent.Extent.{Extent}
@@ -10,6 +10,20 @@ use Rattle.dk_inline.specs.Nodes.{nodes_of}
 -- the number, or 2^64 - 1 where it is greater
 abbrev pub saturated : ℕ → ℕ
 saturated n = min n 18446744073709551615
+
+-- An extent of so many nodes and so deep.
+pub record HasExtent (x : Extent) (count levels : ℕ) : Type 0 where
+  -- its nodes
+  pub nodes : x.nodes ≡ count
+  -- its depth
+  pub depth : x.depth ≡ levels
+
+-- what reads of this many images add that are not inline: nothing
+pub record AreUnread (known : List (Option Extent)) (count : ℕ) : Type 0 where
+  -- there is one for each
+  pub long : length known ≡ count
+  -- none adds anything
+  pub none : (g : ℕ) → slice_index_or known g None ≡ None
 
 pub record IsExtent (x : Extent) (e : Tree) : Type 0 where
   pub nodes : x.nodes ≡ saturated (nodes_of e)
@@ -29,3 +43,10 @@ AreExtents known images = (g : ℕ) → IsExtentOf (slice_index_or known g None)
 pub record HaveExtents (p : Typing) (extents : List Extent) : Type 0 where
   pub long : length extents ≡ length p.definitions
   pub each : (k : ℕ) (d : Definition) (x : Extent) → slice_get p.definitions k ≡ Some d → slice_get extents k ≡ Some x → IsExtent x (inlined_body (substitutes p) d)
+
+-- That of the definition of this number is among them.
+pub record HaveExtentAt (p : Typing) (all : List Extent) (place : ℕ) : Type 0 where
+  -- they are of the definitions' inlined bodies
+  pub extents : HaveExtents p all
+  -- it is there
+  pub number : place < length all

@@ -17,10 +17,14 @@ nodes_of (select c a b) = nodes_of c + nodes_of a + nodes_of b + 1
 nodes_of (convert how a t) = nodes_of a + 1
 nodes_of (scale op a k) = nodes_of a + 1
 
+-- what the k-th definition counts: its nodes where it stays, else nothing
+abbrev pub counted_nodes : Typing → ℕ → Definition → ℕ
+counted_nodes p k d = if stays p k d then nodes_of (inlined_body (substitutes p) d) else 0
+
 -- of definitions that are numbered on from k: the sum over those that stay
 abbrev pub nodes_from : Typing → ℕ → List Definition → ℕ
 nodes_from p k [] = 0
-nodes_from p k (d ∷ ds) = (if stays p k d then nodes_of (inlined_body (substitutes p) d) else 0) + nodes_from p (suc k) ds
+nodes_from p k (d ∷ ds) = counted_nodes p k d + nodes_from p (suc k) ds
 
 abbrev pub node_count : Typing → ℕ
 node_count p = nodes_from p 0 p.definitions

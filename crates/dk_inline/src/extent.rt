@@ -3,9 +3,9 @@
 ghost use Rattle.std.specs.Prelude.{◌≡◌, ℕ, ◌+◌, ◌<◌, max, List, length, IsTrue, ◌↔◌, IfOk, MatchOption, Some, None, slice_get, slice_index_or, if◌then◌else◌};
 ghost use Rattle.dk_base.specs.declared.TheConstants.{MAX_INLINED_DEPTH};
 ghost use Rattle.dk_types.specs.Typed.{Definition, typed_of, definition_of, typing_of};
-ghost use Rattle.dk_inline.specs.Inlined.{Substitute, inlined, inlined_body, substitutes, stays as stays_at};
-ghost use Rattle.dk_inline.specs.Nodes.{nodes_of, node_count as node_count_of, IsDeep, IsFirstDeep};
-ghost use Rattle.dk_inline.specs.Extents.{saturated, IsExtent, AreExtents, HaveExtents};
+ghost use Rattle.dk_inline.specs.Inlined.{Substitute, inlined, inlined_body, stays as stays_at};
+ghost use Rattle.dk_inline.specs.Nodes.{IsDeep, IsFirstDeep, counted_nodes, node_count as node_count_of};
+ghost use Rattle.dk_inline.specs.Extents.{AreExtents, AreUnread, HasExtent, HaveExtentAt, HaveExtents, IsExtent, saturated};
 
 use dk_base::{MAX_INLINED_DEPTH, Span};
 use dk_types::{TypedDefinition, TypedExpr, TypedNode, TypedProgram};
@@ -20,16 +20,14 @@ pub struct Extent {
 
 // Of a constant or a read.
 fn leaf() -> Extent
-    ensures nodes { result.nodes ≡ 1 }
-    ensures depth { result.depth ≡ 1 }
+    ensures { HasExtent result 1 1 }
 {
     Extent { nodes: 1, depth: 1 }
 }
 
 // Of a form with such operands.
 fn above(operands: Extent) -> Extent
-    ensures nodes { result.nodes ≡ saturated (operands.nodes + 1) }
-    ensures depth { result.depth ≡ saturated (operands.depth + 1) }
+    ensures { HasExtent result (saturated (operands.nodes + 1)) (saturated (operands.depth + 1)) }
 {
     Extent {
         nodes: operands.nodes.saturating_add(1),
@@ -39,8 +37,7 @@ fn above(operands: Extent) -> Extent
 
 // Of operands side by side.
 fn beside(a: Extent, b: Extent) -> Extent
-    ensures nodes { result.nodes ≡ saturated (a.nodes + b.nodes) }
-    ensures depth { result.depth ≡ max a.depth b.depth }
+    ensures { HasExtent result (saturated (a.nodes + b.nodes)) (max a.depth b.depth) }
 {
     Extent {
         nodes: a.nodes.saturating_add(b.nodes),
@@ -60,7 +57,8 @@ fn known_extent(known: &[Option<Extent>], image: u32) -> Option<Extent>
 
 // Of an expression, where `known` has those of the images.
 fn extent_of(known: &[Option<Extent>], e: &TypedExpr) -> Extent
-    ensures { (images : List Substitute) → AreExtents known.now images → IsExtent result (inlined images (typed_of e.now)) }
+    ensures { (images : List Substitute) → AreExtents known.now images
+        → IsExtent result (inlined images (typed_of e.now)) }
 {
     match &e.node {
         TypedNode::Number(_) => leaf(),
@@ -87,7 +85,8 @@ fn extent_of(known: &[Option<Extent>], e: &TypedExpr) -> Extent
 
 // Of a definition's body, brought into its declared type.
 fn body_extent(known: &[Option<Extent>], definition: &TypedDefinition) -> Extent
-    ensures { (images : List Substitute) → AreExtents known.now images → IsExtent result (inlined_body images (definition_of definition.now)) }
+    ensures { (images : List Substitute) → AreExtents known.now images
+        → IsExtent result (inlined_body images (definition_of definition.now)) }
 {
     let body = extent_of(known, &definition.body);
     match definition.declared {
@@ -105,8 +104,7 @@ fn read_extent(definition: &TypedDefinition, body: Extent) -> Option<Extent>
 
 // What reads of this many inputs add.
 fn unread(alloc: Global, inputs: usize) -> Result<Vec<Option<Extent>>, AllocError>
-    ensures long { IfOk result (λ v. length v.items ≡ inputs) }
-    ensures none { IfOk result (λ v. (g : ℕ) → slice_index_or v.items g None ≡ None) }
+    ensures { IfOk result (λ v. AreUnread v.items inputs) }
 {
     Ok(vec![in alloc; None; inputs]?)
 }
@@ -131,7 +129,8 @@ pub(crate) fn extents(alloc: Global, program: &TypedProgram) -> Result<Vec<Exten
 // Whether the definition of this number stays an image.
 pub(crate) fn stays(program: &TypedProgram, number: usize) -> bool
     requires { number < length program.now.definitions }
-    ensures { (d : Definition) → slice_get (typing_of program.now).definitions number ≡ Some d → result ≡ stays_at (typing_of program.now) number d }
+    ensures { (d : Definition) → slice_get (typing_of program.now).definitions number ≡ Some d
+        → result ≡ stays_at (typing_of program.now) number d }
 {
     program.law();
     if !program.definitions()[number].inline {
@@ -143,10 +142,9 @@ pub(crate) fn stays(program: &TypedProgram, number: usize) -> bool
 
 // The nodes that a definition counts.
 fn counted(program: &TypedProgram, extents: &[Extent], number: usize) -> u64
-    requires extents { HaveExtents (typing_of program.now) extents.now }
-    requires number { number < length extents.now }
+    requires { HaveExtentAt (typing_of program.now) extents.now number }
     ensures { (d : Definition) → slice_get (typing_of program.now).definitions number ≡ Some d
-        → result ≡ saturated (if stays_at (typing_of program.now) number d then nodes_of (inlined_body (substitutes (typing_of program.now)) d) else 0) }
+        → result ≡ saturated (counted_nodes (typing_of program.now) number d) }
 {
     if stays(program, number) {
         extents[number].nodes
@@ -176,9 +174,10 @@ fn passes(depth: u64) -> bool
 
 // Whether a definition stays and is too deep.
 fn is_deep(program: &TypedProgram, extents: &[Extent], number: usize) -> bool
-    requires extents { HaveExtents (typing_of program.now) extents.now }
-    requires number { number < length extents.now }
-    ensures yes { IsTrue result → (d : Definition) → slice_get (typing_of program.now).definitions number ≡ Some d → IsDeep (typing_of program.now) number d }
+    requires { HaveExtentAt (typing_of program.now) extents.now number }
+    ensures yes { IsTrue result → (d : Definition)
+        → slice_get (typing_of program.now).definitions number ≡ Some d
+        → IsDeep (typing_of program.now) number d }
     ensures no { (d : Definition) → IsDeep (typing_of program.now) number d → IsTrue result }
 {
     if !stays(program, number) {
@@ -191,7 +190,8 @@ fn is_deep(program: &TypedProgram, extents: &[Extent], number: usize) -> bool
 // The name of the first definition that is too deep.
 pub(crate) fn first_deep(program: &TypedProgram, extents: &[Extent]) -> Option<Span>
     requires { HaveExtents (typing_of program.now) extents.now }
-    ensures { MatchOption result ((k : ℕ) (d : Definition) → IsDeep (typing_of program.now) k d → ⊥) (λ name. IsFirstDeep (typing_of program.now) name) }
+    ensures { MatchOption result ((k : ℕ) (d : Definition) → IsDeep (typing_of program.now) k d → ⊥)
+        (IsFirstDeep (typing_of program.now)) }
 {
     for k in 0..extents.len() {
         if is_deep(program, extents, k) {

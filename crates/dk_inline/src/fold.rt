@@ -1,12 +1,11 @@
 // Constants in place of what has no read.
 
-ghost use Rattle.std.specs.Prelude.{◌≡◌, ℕ, ◌<◌, All, IsOk, IfOk, IfSome, IfNone, length, slice_index_or};
+ghost use Rattle.std.specs.Prelude.{◌≡◌, ℕ, ◌<◌, All, IsOk, IfOk, length, slice_index_or};
 ghost use Rattle.pointwise_ir.specs.Trees.{constant, unary, binary, select, convert, scale, tree_of};
 ghost use Rattle.pointwise_ir.specs.Programs.{IsProgram, program_of};
 ghost use Rattle.pointwise_ir.specs.Passes.{KeepsMeaning};
-ghost use Rattle.pointwise_ir.specs.Rewritings.{IsSameBut};
-ghost use Rattle.dk_inline.specs.Folded.{IsConstant, HasFoldedParts, IsFolded, IsWorth, IsFoldOf, IsFolding};
-ghost use Rattle.dk_inline.specs.Standing.{IsTyped, StandsFor, HasFoldedOperands, AreOperandsFolded, IsFoldedImage};
+ghost use Rattle.dk_inline.specs.Folded.{HasFoldedParts, IsConstant, IsFolded, IsFolding};
+ghost use Rattle.dk_inline.specs.Standing.{FindsConstant, Folds, FoldsOperands, FoldsProgram, IsConstantIn, IsFoldable, IsFoldedImage, IsTyped};
 ghost use Rattle.pointwise_ir.specs.declared.program.Definition.{Definition};
 
 use dk_base::{Binary, Conversion, OutOfMemory, Scaling, Ty, Unary, select_type};
@@ -46,8 +45,7 @@ struct Constant {
 
 // The constant that the expression is, where it is one.
 fn constant_in(e: &Expr) -> Option<Constant>
-    ensures found { IfSome result (λ c. tree_of e.now ≡ constant c.value c.ty) }
-    ensures none { IfNone result (IsConstant (tree_of e.now) → ⊥) }
+    ensures { IsConstantIn (tree_of e.now) result }
 {
     match e {
         Expr::Constant(value, ty) => Some(Constant {
@@ -61,8 +59,8 @@ fn constant_in(e: &Expr) -> Option<Constant>
 // The constant that an operator of one operand gives, where the operand is one.
 fn unary_constant(op: Unary, operand: &Expr) -> Option<Constant>
     requires { IsTyped (unary op (tree_of operand.now)) }
-    ensures found { IfSome result (λ c. IsWorth (unary op (tree_of operand.now)) c.value c.ty) }
-    ensures none { IfNone result (IsConstant (tree_of operand.now) → ⊥) }
+    ensures { FindsConstant (unary op (tree_of operand.now))
+        (IsConstant (tree_of operand.now) → ⊥) result }
 {
     let operand = constant_in(operand)?;
     let ty = op.result_type(operand.ty)?;
@@ -73,8 +71,8 @@ fn unary_constant(op: Unary, operand: &Expr) -> Option<Constant>
 // The constant that an operator of two operands gives, where both are one.
 fn binary_constant(op: Binary, left: &Expr, right: &Expr) -> Option<Constant>
     requires { IsTyped (binary op (tree_of left.now) (tree_of right.now)) }
-    ensures found { IfSome result (λ c. IsWorth (binary op (tree_of left.now) (tree_of right.now)) c.value c.ty) }
-    ensures none { IfNone result (IsConstant (tree_of left.now) → IsConstant (tree_of right.now) → ⊥) }
+    ensures { FindsConstant (binary op (tree_of left.now) (tree_of right.now))
+        (IsConstant (tree_of left.now) → IsConstant (tree_of right.now) → ⊥) result }
 {
     let left = constant_in(left)?;
     let right = constant_in(right)?;
@@ -86,8 +84,9 @@ fn binary_constant(op: Binary, left: &Expr, right: &Expr) -> Option<Constant>
 // The constant that a choice gives, where the condition and both arms are one.
 fn select_constant(condition: &Expr, left: &Expr, right: &Expr) -> Option<Constant>
     requires { IsTyped (select (tree_of condition.now) (tree_of left.now) (tree_of right.now)) }
-    ensures found { IfSome result (λ c. IsWorth (select (tree_of condition.now) (tree_of left.now) (tree_of right.now)) c.value c.ty) }
-    ensures none { IfNone result (IsConstant (tree_of condition.now) → IsConstant (tree_of left.now) → IsConstant (tree_of right.now) → ⊥) }
+    ensures { FindsConstant (select (tree_of condition.now) (tree_of left.now) (tree_of right.now))
+        (IsConstant (tree_of condition.now) → IsConstant (tree_of left.now)
+        → IsConstant (tree_of right.now) → ⊥) result }
 {
     let condition = constant_in(condition)?;
     let left = constant_in(left)?;
@@ -100,8 +99,8 @@ fn select_constant(condition: &Expr, left: &Expr, right: &Expr) -> Option<Consta
 // The constant that a conversion gives, where the operand is one.
 fn converted_constant(how: Conversion, operand: &Expr, ty: Ty) -> Option<Constant>
     requires { IsTyped (convert how (tree_of operand.now) ty) }
-    ensures found { IfSome result (λ c. IsWorth (convert how (tree_of operand.now) ty) c.value c.ty) }
-    ensures none { IfNone result (IsConstant (tree_of operand.now) → ⊥) }
+    ensures { FindsConstant (convert how (tree_of operand.now) ty)
+        (IsConstant (tree_of operand.now) → ⊥) result }
 {
     let operand = constant_in(operand)?;
     let value = conversion_value(how, ty, operand.value);
@@ -111,8 +110,8 @@ fn converted_constant(how: Conversion, operand: &Expr, ty: Ty) -> Option<Constan
 // The constant that a division or a shift of bits gives, where the operand is one.
 fn scaled_constant(op: Scaling, operand: &Expr, by: u64) -> Option<Constant>
     requires { IsTyped (scale op (tree_of operand.now) by) }
-    ensures found { IfSome result (λ c. IsWorth (scale op (tree_of operand.now) by) c.value c.ty) }
-    ensures none { IfNone result (IsConstant (tree_of operand.now) → ⊥) }
+    ensures { FindsConstant (scale op (tree_of operand.now) by)
+        (IsConstant (tree_of operand.now) → ⊥) result }
 {
     let operand = constant_in(operand)?;
     let ty = op.result_type(operand.ty, by)?;
@@ -122,10 +121,8 @@ fn scaled_constant(op: Scaling, operand: &Expr, by: u64) -> Option<Constant>
 
 // The constant that the expression gives, where its operands are constants.
 fn constant_of(e: &Expr) -> Option<Constant>
-    requires typed { IsTyped (tree_of e.now) }
-    requires operands { HasFoldedOperands (tree_of e.now) }
-    ensures found { IfSome result (λ c. IsWorth (tree_of e.now) c.value c.ty) }
-    ensures none { IfNone result (HasFoldedParts (tree_of e.now)) }
+    requires { IsFoldable (tree_of e.now) }
+    ensures { FindsConstant (tree_of e.now) (HasFoldedParts (tree_of e.now)) result }
 {
     match e {
         Expr::Constant(..) | Expr::Read(..) | Expr::Shifted(..) => None,
@@ -148,9 +145,7 @@ fn put(e: &mut Expr, by: Constant)
 #[cycle(fold)]
 fn fold_operands(e: &mut Expr)
     requires { IsTyped (tree_of e.old) }
-    ensures stands { StandsFor (tree_of e.old) (tree_of e.new) }
-    ensures operands { HasFoldedOperands (tree_of e.new) }
-    ensures folds { AreOperandsFolded (tree_of e.old) (tree_of e.new) }
+    ensures { FoldsOperands (tree_of e.old) (tree_of e.new) }
 {
     match e {
         Expr::Constant(..) | Expr::Read(..) => {}
@@ -174,9 +169,7 @@ fn fold_operands(e: &mut Expr)
 #[cycle(fold)]
 fn fold_expression(e: &mut Expr)
     requires { IsTyped (tree_of e.old) }
-    ensures stands { StandsFor (tree_of e.old) (tree_of e.new) }
-    ensures folded { HasFoldedParts (tree_of e.new) }
-    ensures fold { IsFoldOf (tree_of e.old) (tree_of e.new) }
+    ensures { Folds (tree_of e.old) (tree_of e.new) }
 {
     fold_operands(e);
     if let Some(constant) = constant_of(e) {
@@ -195,7 +188,8 @@ fn fold_image(image: &mut Definition)
 // Folds each body.
 fn fold_images(images: &mut [Definition])
     requires { All (λ d. IsTyped (tree_of d.body)) images.old }
-    ensures { (k : ℕ) (d : Definition) → k < length images.old → IsFoldedImage (slice_index_or images.old k d) (slice_index_or images.new k d) }
+    ensures { (k : ℕ) (d : Definition) → k < length images.old
+        → IsFoldedImage (slice_index_or images.old k d) (slice_index_or images.new k d) }
 {
     for image in images.iter_mut() {
         fold_image(image);
@@ -205,9 +199,7 @@ fn fold_images(images: &mut [Definition])
 // Folds each body of a program.
 fn fold_parts(parts: &mut Parts)
     requires { IsProgram (program_of parts.old) }
-    ensures same { IsSameBut (program_of parts.old) (program_of parts.new) }
-    ensures folded { IsFolded (program_of parts.new) }
-    ensures folding { IsFolding (program_of parts.old) (program_of parts.new) }
+    ensures { FoldsProgram (program_of parts.old) (program_of parts.new) }
 {
     fold_images(parts.images.as_mut_slice());
 }

@@ -3,7 +3,7 @@
 ghost use Rattle.std.specs.Prelude.{◌≡◌, ◌≤◌, IfOk, IfErr, length};
 ghost use Rattle.dk_types.specs.Typed.{typing_of};
 ghost use Rattle.pointwise_ir.specs.Programs.{program_of};
-ghost use Rattle.dk_inline.specs.Answers.{IsWithin, IsInlining, KeepsProgram, IsFault};
+ghost use Rattle.dk_inline.specs.Answers.{HasPorts, IsWithin, IsInlining, KeepsProgram, IsFault};
 
 use crate::extent::{extents, first_deep, node_count};
 use crate::substitution::{images, inputs};
@@ -55,8 +55,7 @@ fn inlined_parts(alloc: Global, program: &TypedProgram) -> Result<Parts, OutOfMe
 
 // The program with its inline images substituted, which is within the limits.
 fn substituted(alloc: Global, program: &TypedProgram) -> Result<Program, OutOfMemory>
-    requires some_inputs { 1 ≤ length program.now.inputs }
-    requires some_outputs { 1 ≤ length program.now.outputs }
+    requires ports { HasPorts (typing_of program.now) }
     requires within { IsWithin (typing_of program.now) }
     ensures { IfOk result (λ ir. IsInlining (typing_of program.now) ir) }
 {
@@ -67,8 +66,7 @@ fn substituted(alloc: Global, program: &TypedProgram) -> Result<Program, OutOfMe
 
 // The program with its inline images substituted, or the first limit that it passes.
 fn inlined(alloc: Global, program: &TypedProgram) -> Result<Program, InlineFault>
-    requires some_inputs { 1 ≤ length program.now.inputs }
-    requires some_outputs { 1 ≤ length program.now.outputs }
+    requires { HasPorts (typing_of program.now) }
     ensures within { IfOk result (λ ir. IsWithin (typing_of program.now)) }
     ensures inlined { IfOk result (λ ir. IsInlining (typing_of program.now) ir) }
     ensures fault { IfErr result (IsFault (typing_of program.now)) }

@@ -1,6 +1,6 @@
 // Inline images substituted.
 
-ghost use Rattle.std.specs.Prelude.{◌≡◌, ℕ, ◌+◌, ◌<◌, List, length, map, IfOk, MatchOption, Some, slice_get, slice_index_or};
+ghost use Rattle.std.specs.Prelude.{◌≡◌, ◌<◌, length, map, IfOk, MatchOption, Some, slice_get, slice_index_or};
 ghost use Rattle.dk_types.specs.Typed.{typed_of, definition_of, typing_of, types_of, image_type as image_type_of};
 ghost use Rattle.dk_types.specs.Typed as T;
 ghost use Rattle.dk_types.specs.Kept.{IsWell};
@@ -25,7 +25,8 @@ fn inline_definition(program: &TypedProgram, image: u32) -> Option<&TypedDefinit
     requires { image < length (types_of (typing_of program.now)) }
     ensures { MatchOption result (slice_index_or (substitutes (typing_of program.now)) image itself
         ≡ itself) (λ d. (slice_index_or (substitutes (typing_of program.now)) image itself
-        ≡ body (inlined_body (substitutes (typing_of program.now)) (definition_of d.now))) × IsWell (types_of (typing_of program.now)) (typed_of d.now.body)) }
+        ≡ body (inlined_body (substitutes (typing_of program.now)) (definition_of d.now)))
+        × IsWell (types_of (typing_of program.now)) (typed_of d.now.body)) }
 {
     program.law();
     let image = image as usize;
@@ -54,7 +55,8 @@ fn declared(alloc: Global, ty: Option<Ty>, e: Expr) -> Result<Expr, OutOfMemory>
 // An expression whose reads of inline images are their bodies.
 fn expression(alloc: Global, program: &TypedProgram, e: &TypedExpr) -> Result<Expr, OutOfMemory>
     requires { IsWell (types_of (typing_of program.now)) (typed_of e.now) }
-    ensures { IfOk result (λ x. tree_of x ≡ inlined (substitutes (typing_of program.now)) (typed_of e.now)) }
+    ensures { IfOk result (λ x. tree_of x
+        ≡ inlined (substitutes (typing_of program.now)) (typed_of e.now)) }
 {
     match &e.node {
         TypedNode::Number(value) => Ok(Expr::Constant(i128::from(*value), e.ty)),
@@ -105,7 +107,8 @@ fn copied(alloc: Global, name: &Name) -> Result<Text, OutOfMemory>
 
 // The inputs as those of a `Program`.
 pub(crate) fn inputs(alloc: Global, items: &[TypedInput]) -> Result<Vec<Input>, OutOfMemory>
-    ensures names { IfOk result (λ v. map (λ i. i.name) v.items ≡ map (λ i. i.name.text) items.now) }
+    ensures names { IfOk result (λ v. map (λ i. i.name) v.items
+        ≡ map (λ i. i.name.text) items.now) }
     ensures types { IfOk result (λ v. map (λ i. i.ty) v.items ≡ map (λ i. i.ty) items.now) }
 {
     let mut done = Vec::new(alloc);
@@ -134,7 +137,8 @@ fn whole_body(
     definition: &TypedDefinition,
 ) -> Result<Expr, OutOfMemory>
     requires { IsWell (types_of (typing_of program.now)) (typed_of definition.now.body) }
-    ensures { IfOk result (λ e. tree_of e ≡ inlined_body (substitutes (typing_of program.now)) (definition_of definition.now)) }
+    ensures { IfOk result (λ e. tree_of e
+        ≡ inlined_body (substitutes (typing_of program.now)) (definition_of definition.now)) }
 {
     let plain = expression(alloc, program, &definition.body)?;
     let body = declared(alloc, definition.declared, plain)?;
@@ -158,9 +162,12 @@ fn image_body(alloc: Global, program: &TypedProgram, number: usize) -> Result<Ex
 
 // The images of the definitions. An inline image that is no output, which nobody reads any more, has the body 0.
 pub(crate) fn images(alloc: Global, program: &TypedProgram) -> Result<Vec<Definition>, OutOfMemory>
-    ensures names { IfOk result (λ v. map (λ d. d.name) v.items ≡ map (λ (d : T.Definition). d.name.text) (typing_of program.now).definitions) }
-    ensures types { IfOk result (λ v. map (λ d. d.ty) v.items ≡ map image_type_of (typing_of program.now).definitions) }
-    ensures bodies { IfOk result (λ v. map (λ d. tree_of d.body) v.items ≡ bodies (typing_of program.now)) }
+    ensures names { IfOk result (λ v. map (λ d. d.name) v.items
+        ≡ map (λ (d : T.Definition). d.name.text) (typing_of program.now).definitions) }
+    ensures types { IfOk result (λ v. map (λ d. d.ty) v.items
+        ≡ map image_type_of (typing_of program.now).definitions) }
+    ensures bodies { IfOk result (λ v. map (λ d. tree_of d.body) v.items
+        ≡ bodies (typing_of program.now)) }
 {
     let definitions = program.definitions();
     let mut done = Vec::new(alloc);

@@ -7,16 +7,11 @@ use Rattle.std.proofs.lemmas.List.Elements.{All-from_get_or}
 use Rattle.std.proofs.lemmas.List.Sums.{sum_by-cons}
 use Rattle.raster_delay.specs.Network.{constraint_at, IsTight, Holds, IsComplementary}
 use Rattle.raster_delay.specs.declared.network.Constraint.{Constraint}
-use Rattle.flow_dual.specs.Tree.{IsTree, IsLink, HangsTight, IsClosed, LeavesRoom, IsRooted}
+use Rattle.flow_dual.specs.Tree.{IsTree, IsLink, HangsTight, IsClosed, LeavesRoom, IsRooted, Sinks}
 use Rattle.flow_dual.proofs.Raising.{cases_zero}
 
 abbrev nothing : Constraint
 nothing = record { source = 0; target = 0; cost = pos 0 }
-
--- the numbers of the nodes that are not reached go down by so much
-pub record Sinks (order old new : List ℕ) (by : ℕ) : Type 0 where
-  pub reached : (v : ℕ) → 0 < slice_index order v → slice_index new v ≡ slice_index old v
-  pub others : (v : ℕ) → slice_index order v ≡ 0 → slice_index new v ≡ slice_index old v - by
 
 -- there is room to lower each of them
 pub sink_room : (cs : List Constraint) (n : ℕ) (order p : List ℕ) (by : ℕ) → IsRooted cs n → 0 < slice_index order 0 → All (Holds p) cs → LeavesRoom cs p order by

@@ -4,3 +4,4 @@ pub mod Least
 pub mod Optimal
 pub mod Rooted
 pub mod Balances
+pub mod Networks

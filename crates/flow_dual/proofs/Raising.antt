@@ -7,15 +7,10 @@ use Rattle.std.proofs.lemmas.List.Elements.{All-from_get_or}
 use Rattle.raster_delay.specs.Network.{constraint_at, IsTight, Holds, IsComplementary}
 use Rattle.raster_delay.specs.declared.network.Constraint.{Constraint}
 use Rattle.raster_delay.specs.Delays.{IsSmall}
-use Rattle.flow_dual.specs.Tree.{IsTree, IsLink, HangsTight, IsClosed, LeavesRoom, ChangesOnlyOn}
+use Rattle.flow_dual.specs.Tree.{IsTree, IsLink, HangsTight, IsClosed, LeavesRoom, ChangesOnlyOn, Shifts}
 
 abbrev nothing : Constraint
 nothing = record { source = 0; target = 0; cost = pos 0 }
-
--- the nodes that are reached go up by so much, or the others go down
-pub record Shifts (order old new : List ℕ) (by : ℕ) : Type 0 where
-  pub reached : (v : ℕ) → 0 < slice_index order v → slice_index new v ≡ slice_index old v + by
-  pub others : (v : ℕ) → slice_index order v ≡ 0 → slice_index new v ≡ slice_index old v
 
 pub cases_zero : (n : ℕ) → (n ≡ 0) ⊎ (0 < n)
 cases_zero zero = inl refl

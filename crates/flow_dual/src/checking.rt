@@ -1,11 +1,11 @@
 // Whether numbers and a flow are of the greatest worth: each constraint holds, each one with flow is tight, and the flow is balanced.
 
-ghost use Rattle.std.specs.Prelude.{◌≡◌, ◌<◌, ◌≤◌, ◌^◌, ◌-ℤ◌, ℕ, pos, length, slice_index, All, IfOk};
+ghost use Rattle.std.specs.Prelude.{◌≡◌, ◌<◌, ◌≤◌, ◌-ℤ◌, ℕ, pos, length, slice_index, All, IfOk};
 ghost use Rattle.std.specs.Bool.{OnTrue};
 ghost use Rattle.raster_delay.specs.Network.{Holds, IsTight, IsComplementary, inflow, outflow};
-ghost use Rattle.raster_delay.specs.Delays.{IsSmall};
 ghost use Rattle.raster_delay.specs.Systems.{IsBalanced, constraints_in, coefficient_in, nodes};
-ghost use Rattle.flow_dual.specs.Tree.{AreSmall};
+ghost use Rattle.flow_dual.specs.Solutions.{IsGreatest};
+ghost use Rattle.flow_dual.specs.Tree.{AreSmall, AreSums, AreSumsOf, IsAmong, IsNetwork, IsSmallFlow};
 
 use dk_base::OutOfMemory;
 use raster_delay::{Constraint, System};
@@ -13,10 +13,7 @@ use std::alloc::Global;
 
 // Whether a constraint holds, and is tight if there is flow on it.
 fn carries_at(constraint: Constraint, numbers: &[u64], amount: u64) -> bool
-    requires source { constraint.source < length numbers.now }
-    requires target { constraint.target < length numbers.now }
-    requires cost { IsSmall constraint }
-    requires numbers { AreSmall numbers.now }
+    requires { IsAmong numbers.now constraint }
     ensures holds { OnTrue result (Holds numbers.now constraint) }
     ensures carries { OnTrue result (0 < amount → IsTight numbers.now constraint) }
 {
@@ -29,9 +26,7 @@ fn carries_at(constraint: Constraint, numbers: &[u64], amount: u64) -> bool
 // Whether each constraint holds, and each one with flow is tight.
 fn carries(constraints: &[Constraint], numbers: &[u64], flow: &[u64]) -> bool
     requires flows { length flow.now ≡ length constraints.now }
-    requires sources { All (λ c. c.source < length numbers.now) constraints.now }
-    requires targets { All (λ c. c.target < length numbers.now) constraints.now }
-    requires costs { All IsSmall constraints.now }
+    requires network { IsNetwork (length numbers.now) constraints.now }
     requires numbers { AreSmall numbers.now }
     ensures holds { OnTrue result (All (Holds numbers.now) constraints.now) }
     ensures carries { OnTrue result (IsComplementary constraints.now flow.now numbers.now) }
@@ -58,13 +53,10 @@ fn are_at_most(numbers: &[u64], most: u64) -> bool
 
 // Adds to each node what a flow brings to it.
 fn add_inflows(constraints: &[Constraint], flow: &[u64], inflows: &mut [u64])
-    requires flows { length flow.now ≡ length constraints.now }
-    requires count { length constraints.now ≤ 2 ^ 14 }
-    requires amounts { (i : ℕ) → slice_index flow.now i ≤ 2 ^ 32 }
+    requires flow { IsSmallFlow constraints.now flow.now }
     requires targets { All (λ c. c.target < length inflows.old) constraints.now }
     requires zero { (v : ℕ) → slice_index inflows.old v ≡ 0 }
-    ensures value { (v : ℕ) → slice_index inflows.new v ≡ inflow constraints.now flow.now v }
-    ensures near { (v : ℕ) → slice_index inflows.new v ≤ 2 ^ 46 }
+    ensures { AreSumsOf (length inflows.old) (inflow constraints.now flow.now) inflows.new }
 {
     for i in 0..constraints.len() {
         inflows[constraints[i].target] += flow[i];
@@ -73,13 +65,10 @@ fn add_inflows(constraints: &[Constraint], flow: &[u64], inflows: &mut [u64])
 
 // Adds to each node what a flow takes from it.
 fn add_outflows(constraints: &[Constraint], flow: &[u64], outflows: &mut [u64])
-    requires flows { length flow.now ≡ length constraints.now }
-    requires count { length constraints.now ≤ 2 ^ 14 }
-    requires amounts { (i : ℕ) → slice_index flow.now i ≤ 2 ^ 32 }
+    requires flow { IsSmallFlow constraints.now flow.now }
     requires sources { All (λ c. c.source < length outflows.old) constraints.now }
     requires zero { (v : ℕ) → slice_index outflows.old v ≡ 0 }
-    ensures value { (v : ℕ) → slice_index outflows.new v ≡ outflow constraints.now flow.now v }
-    ensures near { (v : ℕ) → slice_index outflows.new v ≤ 2 ^ 46 }
+    ensures { AreSumsOf (length outflows.old) (outflow constraints.now flow.now) outflows.new }
 {
     for i in 0..constraints.len() {
         outflows[constraints[i].source] += flow[i];
@@ -93,13 +82,9 @@ fn inflows(
     flow: &[u64],
     nodes: usize,
 ) -> Result<Vec<u64>, OutOfMemory>
-    requires flows { length flow.now ≡ length constraints.now }
-    requires count { length constraints.now ≤ 2 ^ 14 }
-    requires amounts { (i : ℕ) → slice_index flow.now i ≤ 2 ^ 32 }
+    requires flow { IsSmallFlow constraints.now flow.now }
     requires targets { All (λ c. c.target < nodes) constraints.now }
-    ensures length { IfOk result (λ xs. length xs.items ≡ nodes) }
-    ensures value { IfOk result (λ xs. (v : ℕ) → slice_index xs.items v ≡ inflow constraints.now flow.now v) }
-    ensures near { IfOk result (λ xs. (v : ℕ) → slice_index xs.items v ≤ 2 ^ 46) }
+    ensures { IfOk result (λ xs. AreSumsOf nodes (inflow constraints.now flow.now) xs.items) }
 {
     let mut inflows = vec![in alloc; 0u64; nodes]?;
     add_inflows(constraints, flow, &mut inflows);
@@ -113,13 +98,9 @@ fn outflows(
     flow: &[u64],
     nodes: usize,
 ) -> Result<Vec<u64>, OutOfMemory>
-    requires flows { length flow.now ≡ length constraints.now }
-    requires count { length constraints.now ≤ 2 ^ 14 }
-    requires amounts { (i : ℕ) → slice_index flow.now i ≤ 2 ^ 32 }
+    requires flow { IsSmallFlow constraints.now flow.now }
     requires sources { All (λ c. c.source < nodes) constraints.now }
-    ensures length { IfOk result (λ xs. length xs.items ≡ nodes) }
-    ensures value { IfOk result (λ xs. (v : ℕ) → slice_index xs.items v ≡ outflow constraints.now flow.now v) }
-    ensures near { IfOk result (λ xs. (v : ℕ) → slice_index xs.items v ≤ 2 ^ 46) }
+    ensures { IfOk result (λ xs. AreSumsOf nodes (outflow constraints.now flow.now) xs.items) }
 {
     let mut outflows = vec![in alloc; 0u64; nodes]?;
     add_outflows(constraints, flow, &mut outflows);
@@ -128,12 +109,11 @@ fn outflows(
 
 // Whether inflow less outflow is the coefficient at each node.
 fn are_balanced(system: &System, inflows: &[u64], outflows: &[u64]) -> bool
-    requires inflows { length inflows.now ≡ nodes system.now }
-    requires outflows { length outflows.now ≡ nodes system.now }
-    requires near_in { (v : ℕ) → slice_index inflows.now v ≤ 2 ^ 46 }
-    requires near_out { (v : ℕ) → slice_index outflows.now v ≤ 2 ^ 46 }
+    requires inflows { AreSums (nodes system.now) inflows.now }
+    requires outflows { AreSums (nodes system.now) outflows.now }
     ensures { OnTrue result ((v : ℕ) → v < nodes system.now
-        → pos (slice_index inflows.now v) -ℤ pos (slice_index outflows.now v) ≡ coefficient_in system.now v) }
+        → pos (slice_index inflows.now v) -ℤ pos (slice_index outflows.now v)
+        ≡ coefficient_in system.now v) }
 {
     for v in 0..inflows.len() {
         let surplus = inflows[v] as i64 - outflows[v] as i64;
@@ -146,8 +126,7 @@ fn are_balanced(system: &System, inflows: &[u64], outflows: &[u64]) -> bool
 
 // Whether a flow is balanced.
 fn is_balanced(alloc: Global, system: &System, flow: &[u64]) -> Result<bool, OutOfMemory>
-    requires flows { length flow.now ≡ length (constraints_in system.now) }
-    requires amounts { (i : ℕ) → slice_index flow.now i ≤ 2 ^ 32 }
+    requires { IsSmallFlow (constraints_in system.now) flow.now }
     ensures { IfOk result (λ b. OnTrue b (IsBalanced system.now flow.now)) }
 {
     system.law();
@@ -165,10 +144,7 @@ pub fn is_optimal(
     numbers: &[u64],
     flow: &[u64],
 ) -> Result<bool, OutOfMemory>
-    ensures numbers { IfOk result (λ b. OnTrue b (AreSmall numbers.now)) }
-    ensures holds { IfOk result (λ b. OnTrue b (All (Holds numbers.now) (constraints_in system.now))) }
-    ensures carries { IfOk result (λ b. OnTrue b (IsComplementary (constraints_in system.now) flow.now numbers.now)) }
-    ensures balanced { IfOk result (λ b. OnTrue b (IsBalanced system.now flow.now)) }
+    ensures { IfOk result (λ b. OnTrue b (IsGreatest system.now numbers.now flow.now)) }
 {
     system.law();
     let constraints = system.constraints();

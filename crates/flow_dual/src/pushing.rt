@@ -1,7 +1,7 @@
 // Flow pushed along a tree.
 
-ghost use Rattle.std.specs.Prelude.{◌≡◌, ◌<◌, ◌≤◌, ◌+◌, ◌^◌, ℕ, length, slice_index};
-ghost use Rattle.flow_dual.specs.Tree.{IsTree, Moves, ChangesOnlyOn};
+ghost use Rattle.std.specs.Prelude.{◌<◌, ◌+◌, ◌^◌, ℕ, slice_index};
+ghost use Rattle.flow_dual.specs.Tree.{IsOnTree, Pushes};
 
 use raster_delay::Constraint;
 
@@ -21,17 +21,12 @@ pub fn push(
     node: usize,
     most: u64,
 ) -> u64
-    requires sizes { length flow.old ≡ length constraints.now }
-    requires parents { length paths.now.parent.now ≡ length paths.now.order.now }
-    requires tree { IsTree constraints.now flow.old paths.now.order.now paths.now.parent.now paths.now.root }
-    requires reached { 0 < slice_index paths.now.order.now node }
+    requires way { IsOnTree constraints.now flow.old paths.now.order.now paths.now.parent.now
+        paths.now.root node }
     requires some { 0 < most }
     requires room { (i : ℕ) → slice_index flow.old i + most < 2 ^ 64 }
-    ensures some { 0 < result }
-    ensures most { result ≤ most }
-    ensures moves { Moves constraints.now flow.old flow.new paths.now.root node result }
-    ensures changes { ChangesOnlyOn paths.now.order.now paths.now.parent.now paths.now.root node flow.old flow.new }
-    ensures grows { (i : ℕ) → slice_index flow.new i ≤ slice_index flow.old i + result }
+    ensures { Pushes constraints.now paths.now.order.now paths.now.parent.now
+        paths.now.root node flow.old flow.new most result }
 {
     if node == paths.root {
         return most;

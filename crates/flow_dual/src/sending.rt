@@ -1,11 +1,10 @@
 // Each image's width sent from where it begins to where it ends.
 
-ghost use Rattle.std.specs.Prelude.{◌≡◌, ◌<◌, ◌≤◌, ◌+◌, ◌*◌, ◌^◌, ℕ, length, slice_index, All, OnOk};
+ghost use Rattle.std.specs.Prelude.{◌<◌, ◌≤◌, ◌+◌, length, OnOk};
 ghost use Rattle.dk_base.specs.declared.TheConstants.{MAX_KEPT_IMAGES};
-ghost use Rattle.raster_delay.specs.Network.{Holds, IsComplementary, constraint_at};
-ghost use Rattle.raster_delay.specs.Delays.{IsSmall};
-ghost use Rattle.raster_delay.specs.Systems.{IsBalanced, constraints_in, nodes};
-ghost use Rattle.flow_dual.specs.Tree.{Moves, IsHold};
+ghost use Rattle.raster_delay.specs.Network.{constraint_at};
+ghost use Rattle.flow_dual.specs.Solutions.{IsGreatest, IsStart};
+ghost use Rattle.flow_dual.specs.Tree.{IsHold, IsNetwork, IsSent, Moves};
 
 use crate::pushing::{Paths, push};
 use crate::shifting::{least_slack, raise};
@@ -23,23 +22,16 @@ fn send(
     image: usize,
     width: u8,
 ) -> Result<(), OutOfMemory>
-    requires flows { length flow.old ≡ length network.now.constraints.now }
-    requires sources { All (λ c. c.source < length numbers.old) network.now.constraints.now }
-    requires targets { All (λ c. c.target < length numbers.old) network.now.constraints.now }
-    requires costs { All IsSmall network.now.constraints.now }
+    requires network { IsNetwork (length numbers.old) network.now.constraints.now }
     requires nodes { length numbers.old ≤ 528 }
     requires images { image < MAX_KEPT_IMAGES }
     requires hold { IsHold network.now.constraints.now image }
-    requires numbers { (v : ℕ) → slice_index numbers.old v ≤ 2 ^ 41 + image * 2 ^ 36 }
-    requires amounts { (i : ℕ) → slice_index flow.old i ≤ image * 2 ^ 8 }
-    requires holds { All (Holds numbers.old) network.now.constraints.now }
-    requires carries { IsComplementary network.now.constraints.now flow.old numbers.old }
-    ensures numbers { OnOk result ((v : ℕ) → slice_index numbers.new v ≤ 2 ^ 41 + (image + 1) * 2 ^ 36) }
-    ensures amounts { OnOk result ((i : ℕ) → slice_index flow.new i ≤ (image + 1) * 2 ^ 8) }
-    ensures holds { OnOk result (All (Holds numbers.new) network.now.constraints.now) }
-    ensures carries { OnOk result (IsComplementary network.now.constraints.now flow.new numbers.new) }
+    requires sent { IsSent network.now.constraints.now numbers.old flow.old image }
+    ensures sent { OnOk result
+        (IsSent network.now.constraints.now numbers.new flow.new (image + 1)) }
     ensures moves { OnOk result (Moves network.now.constraints.now flow.old flow.new
-        (constraint_at network.now.constraints.now image).source (constraint_at network.now.constraints.now image).target width) }
+        (constraint_at network.now.constraints.now image).source
+        (constraint_at network.now.constraints.now image).target width) }
 {
     let constraints = network.constraints;
     let begin = constraints[image].source;
@@ -72,15 +64,8 @@ pub fn send_all(
     numbers: &mut [u64],
     flow: &mut [u64],
 ) -> Result<(), OutOfMemory>
-    requires nodes { length numbers.old ≡ nodes system.now }
-    requires flows { length flow.old ≡ length (constraints_in system.now) }
-    requires empty { (i : ℕ) → slice_index flow.old i ≡ 0 }
-    requires numbers { (v : ℕ) → slice_index numbers.old v ≤ 2 ^ 41 }
-    requires holds { All (Holds numbers.old) (constraints_in system.now) }
-    ensures numbers { OnOk result ((v : ℕ) → slice_index numbers.new v < 2 ^ 60) }
-    ensures holds { OnOk result (All (Holds numbers.new) (constraints_in system.now)) }
-    ensures carries { OnOk result (IsComplementary (constraints_in system.now) flow.new numbers.new) }
-    ensures balanced { OnOk result (IsBalanced system.now flow.new) }
+    requires { IsStart system.now numbers.old flow.old }
+    ensures { OnOk result (IsGreatest system.now numbers.new flow.new) }
 {
     system.law();
     let constraints = system.constraints();

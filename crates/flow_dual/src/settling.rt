@@ -1,9 +1,7 @@
 // The least numbers that suit a flow.
 
-ghost use Rattle.std.specs.Prelude.{◌≡◌, ◌<◌, ◌≤◌, ◌^◌, ℕ, List, length, slice_index, All, OnOk, IfSome, IfNone};
-ghost use Rattle.raster_delay.specs.Network.{Holds, IsComplementary};
-ghost use Rattle.raster_delay.specs.Delays.{IsSmall};
-ghost use Rattle.flow_dual.specs.Tree.{AreSmall, IsRooted};
+ghost use Rattle.std.specs.Prelude.{◌≡◌, ◌<◌, ◌≤◌, ℕ, length, slice_index, OnOk, IfSome, IfNone};
+ghost use Rattle.flow_dual.specs.Tree.{IsRooted, IsSettled, IsState};
 
 use crate::shifting::{least_slack, lower};
 use crate::tree::{Network, reach};
@@ -25,23 +23,12 @@ pub fn settle(
     numbers: &mut [u64],
     flow: &[u64],
 ) -> Result<(), OutOfMemory>
-    requires flows { length flow.now ≡ length network.now.constraints.now }
-    requires sources { All (λ c. c.source < length numbers.old) network.now.constraints.now }
-    requires targets { All (λ c. c.target < length numbers.old) network.now.constraints.now }
-    requires costs { All IsSmall network.now.constraints.now }
+    requires state { IsState network.now.constraints.now numbers.old flow.now }
     requires some { 0 < length numbers.old }
     requires nodes { length numbers.old ≤ 528 }
     requires rooted { IsRooted network.now.constraints.now (length numbers.old) }
-    requires numbers { AreSmall numbers.old }
     requires zero { slice_index numbers.old 0 ≡ 0 }
-    requires holds { All (Holds numbers.old) network.now.constraints.now }
-    requires carries { IsComplementary network.now.constraints.now flow.now numbers.old }
-    ensures zero { OnOk result (slice_index numbers.new 0 ≡ 0) }
-    ensures near { OnOk result ((v : ℕ) → slice_index numbers.new v < 2 ^ 34) }
-    ensures holds { OnOk result (All (Holds numbers.new) network.now.constraints.now) }
-    ensures carries { OnOk result (IsComplementary network.now.constraints.now flow.now numbers.new) }
-    ensures least { OnOk result ((d : List ℕ) → All (Holds d) network.now.constraints.now → IsComplementary network.now.constraints.now flow.now d
-        → (v : ℕ) → v < length numbers.new → slice_index numbers.new v ≤ slice_index d v) }
+    ensures { OnOk result (IsSettled network.now.constraints.now flow.now numbers.new) }
 {
     loop {
         let tree = reach(alloc, network, numbers, flow, 0)?;

@@ -1,20 +1,17 @@
 // How far the numbers of nodes may be raised or lowered, and doing so.
 
-ghost use Rattle.std.specs.Prelude.{◌≡◌, ◌<◌, ◌≤◌, ◌+◌, ◌-◌, ◌^◌, ◌+ℤ◌, ℕ, pos, length, slice_index, All};
+ghost use Rattle.std.specs.Prelude.{◌≡◌, ◌<◌, ◌≤◌, ◌+◌, ◌-◌, ◌^◌, ◌+ℤ◌, ℕ, pos, length, slice_index};
 ghost use Rattle.raster_delay.specs.Network.{Holds};
-ghost use Rattle.raster_delay.specs.Delays.{IsSmall};
-ghost use Rattle.flow_dual.specs.Tree.{AreSmall, StopsTight, LeavesRoom};
+ghost use Rattle.flow_dual.specs.Tree.{IsAmong, IsFeasible, IsSlack, Shifts, Sinks, StopsTight};
 
 use raster_delay::Constraint;
 
 // How far the target's number is above the source's and the cost.
 pub fn slack(constraint: Constraint, numbers: &[u64]) -> u64
-    requires source { constraint.source < length numbers.now }
-    requires target { constraint.target < length numbers.now }
-    requires cost { IsSmall constraint }
-    requires numbers { AreSmall numbers.now }
+    requires among { IsAmong numbers.now constraint }
     requires holds { Holds numbers.now constraint }
-    ensures { pos (slice_index numbers.now constraint.source) +ℤ constraint.cost +ℤ pos result ≡ pos (slice_index numbers.now constraint.target) }
+    ensures { pos (slice_index numbers.now constraint.source) +ℤ constraint.cost +ℤ pos result
+        ≡ pos (slice_index numbers.now constraint.target) }
 {
     let source = numbers[constraint.source] as i64;
     let target = numbers[constraint.target] as i64;
@@ -24,14 +21,9 @@ pub fn slack(constraint: Constraint, numbers: &[u64]) -> u64
 // The least slack of the constraints that lead from a node that is reached to one that is not.
 pub fn least_slack(constraints: &[Constraint], numbers: &[u64], order: &[usize]) -> u64
     requires orders { length order.now ≡ length numbers.now }
-    requires sources { All (λ c. c.source < length numbers.now) constraints.now }
-    requires targets { All (λ c. c.target < length numbers.now) constraints.now }
-    requires costs { All IsSmall constraints.now }
-    requires numbers { AreSmall numbers.now }
-    requires holds { All (Holds numbers.now) constraints.now }
+    requires feasible { IsFeasible constraints.now numbers.now }
     requires closed { StopsTight constraints.now numbers.now order.now }
-    ensures positive { 0 < result }
-    ensures least { LeavesRoom constraints.now numbers.now order.now result }
+    ensures { IsSlack constraints.now numbers.now order.now result }
 {
     let mut least = u64::MAX;
     for i in 0..constraints.len() {
@@ -47,8 +39,7 @@ pub fn least_slack(constraints: &[Constraint], numbers: &[u64], order: &[usize])
 pub fn raise(numbers: &mut [u64], order: &[usize], by: u64)
     requires orders { length order.now ≡ length numbers.old }
     requires room { (v : ℕ) → slice_index numbers.old v + by < 2 ^ 64 }
-    ensures reached { (v : ℕ) → 0 < slice_index order.now v → slice_index numbers.new v ≡ slice_index numbers.old v + by }
-    ensures others { (v : ℕ) → slice_index order.now v ≡ 0 → slice_index numbers.new v ≡ slice_index numbers.old v }
+    ensures { Shifts order.now numbers.old numbers.new by }
 {
     for v in 0..numbers.len() {
         if order[v] != 0 {
@@ -60,9 +51,9 @@ pub fn raise(numbers: &mut [u64], order: &[usize], by: u64)
 // Lowers the numbers of the nodes that are not reached.
 pub fn lower(numbers: &mut [u64], order: &[usize], by: u64)
     requires orders { length order.now ≡ length numbers.old }
-    requires room { (v : ℕ) → v < length numbers.old → slice_index order.now v ≡ 0 → by ≤ slice_index numbers.old v }
-    ensures reached { (v : ℕ) → 0 < slice_index order.now v → slice_index numbers.new v ≡ slice_index numbers.old v }
-    ensures others { (v : ℕ) → slice_index order.now v ≡ 0 → slice_index numbers.new v ≡ slice_index numbers.old v - by }
+    requires room { (v : ℕ) → v < length numbers.old → slice_index order.now v ≡ 0
+        → by ≤ slice_index numbers.old v }
+    ensures { Sinks order.now numbers.old numbers.new by }
 {
     for v in 0..numbers.len() {
         if order[v] == 0 {
@@ -74,8 +65,10 @@ pub fn lower(numbers: &mut [u64], order: &[usize], by: u64)
 // Takes the number of node 0 from each.
 pub fn rebase(numbers: &mut [u64])
     requires some { 0 < length numbers.old }
-    requires least { (v : ℕ) → v < length numbers.old → slice_index numbers.old 0 ≤ slice_index numbers.old v }
-    ensures { (v : ℕ) → slice_index numbers.new v ≡ slice_index numbers.old v - slice_index numbers.old 0 }
+    requires least { (v : ℕ) → v < length numbers.old
+        → slice_index numbers.old 0 ≤ slice_index numbers.old v }
+    ensures { (v : ℕ) → slice_index numbers.new v
+        ≡ slice_index numbers.old v - slice_index numbers.old 0 }
 {
     let base = numbers[0];
     for v in 0..numbers.len() {

@@ -1,10 +1,8 @@
 // The least vector of least bits, and a flow that shows them least.
 
-ghost use Rattle.std.specs.Prelude.{◌≡◌, ◌<◌, ◌≤◌, ◌^◌, ℕ, length, slice_index, All, IfOk, OnOk};
-ghost use Rattle.raster_delay.specs.Network.{Holds, IsComplementary};
-ghost use Rattle.raster_delay.specs.Delays.{begin_of, end_of};
-ghost use Rattle.raster_delay.specs.Systems.{IsBalanced, constraints_in, image_count, nodes};
-ghost use Rattle.flow_dual.specs.Solutions.{IsOptimum, IsSolution};
+ghost use Rattle.std.specs.Prelude.{◌≡◌, length, IfOk, OnOk};
+ghost use Rattle.raster_delay.specs.Systems.{AreBegins, AreEnds, nodes};
+ghost use Rattle.flow_dual.specs.Solutions.{IsGreatest, IsOptimum, IsSolution, IsStart};
 
 use crate::checking::is_optimal;
 use crate::sending::send_all;
@@ -26,15 +24,8 @@ fn find_flow(
     numbers: &mut [u64],
     flow: &mut [u64],
 ) -> Result<(), OutOfMemory>
-    requires nodes { length numbers.old ≡ nodes system.now }
-    requires flows { length flow.old ≡ length (constraints_in system.now) }
-    requires empty { (i : ℕ) → slice_index flow.old i ≡ 0 }
-    requires numbers { (v : ℕ) → slice_index numbers.old v ≤ 2 ^ 41 }
-    requires holds { All (Holds numbers.old) (constraints_in system.now) }
-    ensures numbers { OnOk result ((v : ℕ) → slice_index numbers.new v < 2 ^ 60) }
-    ensures holds { OnOk result (All (Holds numbers.new) (constraints_in system.now)) }
-    ensures carries { OnOk result (IsComplementary (constraints_in system.now) flow.new numbers.new) }
-    ensures balanced { OnOk result (IsBalanced system.now flow.new) }
+    requires { IsStart system.now numbers.old flow.old }
+    ensures { OnOk result (IsGreatest system.now numbers.new flow.new) }
 {
     let proposal = propose(alloc, system)?;
     let optimal = is_optimal(alloc, system, &proposal.potentials, &proposal.flow)?;
@@ -54,11 +45,7 @@ fn balance(
     numbers: &mut [u64],
     flow: &mut [u64],
 ) -> Result<(), OutOfMemory>
-    requires nodes { length numbers.old ≡ nodes system.now }
-    requires flows { length flow.old ≡ length (constraints_in system.now) }
-    requires empty { (i : ℕ) → slice_index flow.old i ≡ 0 }
-    requires numbers { (v : ℕ) → slice_index numbers.old v ≤ 2 ^ 41 }
-    requires holds { All (Holds numbers.old) (constraints_in system.now) }
+    requires { IsStart system.now numbers.old flow.old }
     ensures { OnOk result (IsOptimum system.now numbers.new flow.new) }
 {
     system.law();
@@ -77,9 +64,7 @@ fn balance(
 // The delays among numbers of the nodes.
 fn delays_among(alloc: Global, system: &System, numbers: &[u64]) -> Result<Numbers, OutOfMemory>
     requires { length numbers.now ≡ nodes system.now }
-    ensures length { IfOk result (λ delays. length delays ≡ image_count system.now) }
-    ensures numbers { IfOk result (λ delays. (k : ℕ) → k < image_count system.now
-        → slice_index delays k ≡ slice_index numbers.now (begin_of system.now.stencils.inputs k)) }
+    ensures { IfOk result (λ delays. AreBegins system.now numbers.now delays) }
 {
     let delays = begin_numbers(alloc, system, numbers)?;
     Ok(Numbers::new(delays))
@@ -88,9 +73,7 @@ fn delays_among(alloc: Global, system: &System, numbers: &[u64]) -> Result<Numbe
 // The ends among numbers of the nodes.
 fn ends_among(alloc: Global, system: &System, numbers: &[u64]) -> Result<Numbers, OutOfMemory>
     requires { length numbers.now ≡ nodes system.now }
-    ensures length { IfOk result (λ ends. length ends ≡ image_count system.now) }
-    ensures numbers { IfOk result (λ ends. (k : ℕ) → k < image_count system.now
-        → slice_index ends k ≡ slice_index numbers.now (end_of system.now.stencils.inputs (image_count system.now) k)) }
+    ensures { IfOk result (λ ends. AreEnds system.now numbers.now ends) }
 {
     let ends = end_numbers(alloc, system, numbers)?;
     Ok(Numbers::new(ends))

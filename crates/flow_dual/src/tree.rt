@@ -1,7 +1,7 @@
 // The nodes that are reached from a root in the residual network: by tight constraints, and by taking flow back.
 
-ghost use Rattle.std.specs.Prelude.{◌≡◌, ◌<◌, ◌≤◌, ℕ, length, slice_index, IfOk};
-ghost use Rattle.flow_dual.specs.Tree.{IsTree, HangsTight, IsClosed, IsClosedAt, IsState, IsSearch, CountsReached};
+ghost use Rattle.std.specs.Prelude.{◌≡◌, ◌<◌, ◌≤◌, length, IfOk};
+ghost use Rattle.flow_dual.specs.Tree.{CountsReached, Explores, HangsTight, IsClosed, IsClosedAt, IsExplored, IsSearch, IsState, IsTree, Reaches};
 
 use crate::shifting::slack;
 use dk_base::OutOfMemory;
@@ -34,20 +34,26 @@ pub struct Tree {
 
 // Hangs the node that a constraint reaches on it, if there is one.
 fn cross(residual: &Residual, tree: &mut Tree, i: usize)
-    requires state { IsState residual.now.constraints.now residual.now.potentials.now residual.now.flow.now }
-    requires search { IsSearch residual.now.constraints.now residual.now.potentials.now residual.now.flow.now
+    requires state { IsState residual.now.constraints.now residual.now.potentials.now
+        residual.now.flow.now }
+    requires search { IsSearch residual.now.constraints.now residual.now.potentials.now
+        residual.now.flow.now
         tree.old.order.items tree.old.parent.items tree.old.root tree.old.reached }
     requires index { i < length residual.now.constraints.now }
     ensures root { tree.new.root ≡ tree.old.root }
     ensures orders { length tree.new.order.items ≡ length tree.old.order.items }
     ensures parents { length tree.new.parent.items ≡ length tree.old.parent.items }
-    ensures tree { IsTree residual.now.constraints.now residual.now.flow.now tree.new.order.items tree.new.parent.items tree.new.root }
-    ensures tight { HangsTight residual.now.constraints.now residual.now.potentials.now tree.new.order.items tree.new.parent.items tree.new.root }
+    ensures tree { IsTree residual.now.constraints.now residual.now.flow.now
+        tree.new.order.items tree.new.parent.items tree.new.root }
+    ensures tight { HangsTight residual.now.constraints.now residual.now.potentials.now
+        tree.new.order.items tree.new.parent.items tree.new.root }
     ensures count { CountsReached tree.new.order.items tree.new.reached }
     ensures more { tree.old.reached ≤ tree.new.reached }
-    ensures same { tree.new.reached ≡ tree.old.reached → tree.new.order.items ≡ tree.old.order.items }
+    ensures same { tree.new.reached ≡ tree.old.reached
+        → tree.new.order.items ≡ tree.old.order.items }
     ensures closed { tree.new.reached ≡ tree.old.reached
-        → IsClosedAt residual.now.constraints.now residual.now.potentials.now residual.now.flow.now tree.new.order.items i }
+        → IsClosedAt residual.now.constraints.now residual.now.potentials.now
+        residual.now.flow.now tree.new.order.items i }
 {
     let c = residual.constraints[i];
     if tree.order[c.source] != 0 && tree.order[c.target] == 0 {
@@ -67,15 +73,13 @@ fn cross(residual: &Residual, tree: &mut Tree, i: usize)
 
 // Goes once over the constraints, and hangs each node that one of them reaches on it.
 fn widen(residual: &Residual, tree: &mut Tree)
-    requires state { IsState residual.now.constraints.now residual.now.potentials.now residual.now.flow.now }
-    requires search { IsSearch residual.now.constraints.now residual.now.potentials.now residual.now.flow.now
-        tree.old.order.items tree.old.parent.items tree.old.root tree.old.reached }
-    ensures root { tree.new.root ≡ tree.old.root }
-    ensures search { IsSearch residual.now.constraints.now residual.now.potentials.now residual.now.flow.now
-        tree.new.order.items tree.new.parent.items tree.new.root tree.new.reached }
-    ensures more { tree.old.reached ≤ tree.new.reached }
+    requires { IsExplored residual.now.constraints.now residual.now.potentials.now
+        residual.now.flow.now tree.old }
+    ensures explores { Explores residual.now.constraints.now residual.now.potentials.now
+        residual.now.flow.now tree.old tree.new }
     ensures closed { tree.new.reached ≡ tree.old.reached
-        → IsClosed residual.now.constraints.now residual.now.potentials.now residual.now.flow.now tree.new.order.items }
+        → IsClosed residual.now.constraints.now residual.now.potentials.now
+        residual.now.flow.now tree.new.order.items }
 {
     for i in 0..residual.constraints.len() {
         cross(residual, tree, i);
@@ -84,13 +88,10 @@ fn widen(residual: &Residual, tree: &mut Tree)
 
 // Hangs what these constraints reach, and notes which node was reached at each order.
 fn explore_from(residual: &Residual, tree: &mut Tree, found: &mut [usize], incident: &[usize])
-    requires state { IsState residual.now.constraints.now residual.now.potentials.now residual.now.flow.now }
-    requires search { IsSearch residual.now.constraints.now residual.now.potentials.now residual.now.flow.now
-        tree.old.order.items tree.old.parent.items tree.old.root tree.old.reached }
-    ensures root { tree.new.root ≡ tree.old.root }
-    ensures search { IsSearch residual.now.constraints.now residual.now.potentials.now residual.now.flow.now
-        tree.new.order.items tree.new.parent.items tree.new.root tree.new.reached }
-    ensures more { tree.old.reached ≤ tree.new.reached }
+    requires { IsExplored residual.now.constraints.now residual.now.potentials.now
+        residual.now.flow.now tree.old }
+    ensures { Explores residual.now.constraints.now residual.now.potentials.now
+        residual.now.flow.now tree.old tree.new }
 {
     for k in 0..incident.len() {
         let i = incident[k];
@@ -113,13 +114,10 @@ fn explore_from(residual: &Residual, tree: &mut Tree, found: &mut [usize], incid
 // Goes on from each node that is reached, in their order, by the lists of constraints at the nodes. This is for speed:
 // that nothing is left out rests on `widen`, and not on the lists.
 fn explore(residual: &Residual, tree: &mut Tree, found: &mut [usize], incident: &[Vec<usize>])
-    requires state { IsState residual.now.constraints.now residual.now.potentials.now residual.now.flow.now }
-    requires search { IsSearch residual.now.constraints.now residual.now.potentials.now residual.now.flow.now
-        tree.old.order.items tree.old.parent.items tree.old.root tree.old.reached }
-    ensures root { tree.new.root ≡ tree.old.root }
-    ensures search { IsSearch residual.now.constraints.now residual.now.potentials.now residual.now.flow.now
-        tree.new.order.items tree.new.parent.items tree.new.root tree.new.reached }
-    ensures more { tree.old.reached ≤ tree.new.reached }
+    requires { IsExplored residual.now.constraints.now residual.now.potentials.now
+        residual.now.flow.now tree.old }
+    ensures { Explores residual.now.constraints.now residual.now.potentials.now
+        residual.now.flow.now tree.old tree.new }
 {
     for next in 1..found.len() {
         if next > tree.reached {
@@ -165,12 +163,7 @@ pub fn reach(
 ) -> Result<Tree, OutOfMemory>
     requires state { IsState network.now.constraints.now potentials.now flow.now }
     requires root { root < length potentials.now }
-    ensures root { IfOk result (λ t. t.root ≡ root) }
-    ensures sizes { IfOk result (λ t. (length t.order.items ≡ length potentials.now) × (length t.parent.items ≡ length potentials.now)) }
-    ensures tree { IfOk result (λ t. IsTree network.now.constraints.now flow.now t.order.items t.parent.items root) }
-    ensures tight { IfOk result (λ t. HangsTight network.now.constraints.now potentials.now t.order.items t.parent.items root) }
-    ensures closed { IfOk result (λ t. IsClosed network.now.constraints.now potentials.now flow.now t.order.items) }
-    ensures bound { IfOk result (λ t. (v : ℕ) → slice_index t.order.items v ≤ length potentials.now) }
+    ensures { IfOk result (Reaches network.now.constraints.now potentials.now flow.now root) }
 {
     let constraints = network.constraints;
     let residual = Residual {

@@ -23,11 +23,15 @@ widths_of images = map (λ i. i.width) images
 abbrev pub delays : Report → List ℕ
 delays r = delays_of r.images
 
+-- a read of image g is at least so old
+abbrev pub IsOldOf : (row age : ℕ) → (delays : List ℕ) → (g : ℕ) → PlacedRead → Type 0
+IsOldOf row age d g r = r.g ≡ g → pos age ≤ℤ age_of row d r
+
 -- the line of the image at place k: the width of the image, no delay of an input, each live read that reads it old enough, and the greatest of their ages
 pub record ImageHolds (s : System) (images : List ImageLine) (k : ℕ) : Type 0 where
   pub width_is : slice_index (widths_of images) k ≡ slice_index (widths s) k
   pub at_once : k < s.stencils.inputs → slice_index (delays_of images) k ≡ 0
-  pub ages : All (λ q. q.g ≡ k → pos s.age ≤ℤ age_of s.stencils.width (delays_of images) q) (placed_reads s)
+  pub ages : All (IsOldOf s.stencils.width s.age (delays_of images) k) (placed_reads s)
   pub depth_is : slice_index (depths_of images) k ≡ depth s (delays_of images) k
 
 -- the delay of the output at place k

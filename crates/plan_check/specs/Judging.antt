@@ -16,6 +16,10 @@ use Rattle.plan_check.specs.Holding.{ImageHolds, LatencyHolds, delays, clocks_of
 abbrev pub line_at : List FlowLine → ℕ → FlowLine
 line_at flow k = slice_index_or flow k (Hold 0 0)
 
+-- the flow line at place k names a constraint
+abbrev pub NamesConstraint : System → List FlowLine → ℕ → Type 0
+NamesConstraint s flow k = HasConstraint s (line_at flow k)
+
 -- the rules by the printed numbers, in the order of the lines
 abbrev pub number_rules : System → Report → List (ℕ × Type 0)
 number_rules s r =
@@ -23,7 +27,7 @@ number_rules s r =
     ++ (each (latency_number r) (length r.latencies) (LatencyHolds s r.images r.latencies)
     ++ ((clocks_number r, r.clocks ≡ clocks_of r)
     ∷ (bits_number r, r.bits ≡ bits s (delays r))
-    ∷ (each (flow_number r) (length r.flow) (λ k. HasConstraint s (line_at r.flow k))
+    ∷ (each (flow_number r) (length r.flow) (NamesConstraint s r.flow)
     ++ ((last_number r, FlowHolds s r.flow r.bits) ∷ []))))
 
 -- what is answered

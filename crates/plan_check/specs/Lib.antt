@@ -7,3 +7,4 @@ pub mod Holding
 pub mod Sums
 pub mod Judging
 pub mod Program
+pub mod Stages

@@ -1,5 +1,6 @@
 -- Which lines of a report are wrong by the program, and what is answered on both kinds of rules.
-use Rattle.std.specs.Prelude.{◌≡◌, ℕ, ◌+◌, ◌<◌, ◌≤◌, List, [], ◌∷◌, ◌++◌, length, slice_index, slice_index_or}
+use Rattle.std.specs.Prelude.{◌≡◌, ℕ, ◌+◌, ◌<◌, ◌≤◌, List, [], ◌∷◌, ◌++◌, length, slice_index, slice_index_or, All}
+use Rattle.dk_base.specs.declared.stencils.Image.{Image}
 use Rattle.dk_base.specs.Stencils.{Stencils, numbers}
 use Rattle.raster_delay.specs.Placing.{widths_of as image_widths}
 use Rattle.raster_delay.specs.Systems.{System}
@@ -17,6 +18,10 @@ use Rattle.plan_check.specs.Judging.{number_rules}
 abbrev pub kept_name : (names : List (List ℕ)) → Stencils → ℕ → List ℕ
 kept_name names s k = slice_index_or names (slice_index (numbers s.images) k) []
 
+-- kept images are among the images of these names
+abbrev pub AreNamed : (names : List (List ℕ)) → List Image → Type 0
+AreNamed names images = All (λ (i : Image). i.number < length names) images
+
 -- the line at place k is that of the k-th kept image: its name and its width, where there is one
 pub record IsNamed (names : List (List ℕ)) (s : Stencils) (images : List ImageLine) (k : ℕ) : Type 0 where
   pub kept : k < length s.images
@@ -27,6 +32,10 @@ pub record IsOfSize (s : Stencils) (r : Report) : Type 0 where
   pub width : r.width ≡ s.width
   pub height : r.height ≡ s.height
 
+-- the number of live reads is the program's, where the version has it
+abbrev pub HasReads : Stencils → Report → Type 0
+HasReads s r = (r.version ≡ 1 → ⊥) → r.reads ≡ length s.reads
+
 -- The rules by the program, in the order of the lines. What is missing is specified at the line that is in its place.
 abbrev pub program_rules : (names : List (List ℕ)) → Stencils → Report → List (ℕ × Type 0)
 program_rules names s r =
@@ -35,7 +44,7 @@ program_rules names s r =
     ++ ((latency_number r 0, length s.images ≤ length r.images)
     ∷ (each (latency_number r) (length r.latencies) (λ k. k < length s.outputs)
     ++ ((clocks_number r, length s.outputs ≤ length r.latencies)
-    ∷ (bits_number r + 1, (r.version ≡ 1 → ⊥) → r.reads ≡ length s.reads)
+    ∷ (bits_number r + 1, HasReads s r)
     ∷ []))))
 
 -- the report has as many images and outputs as the program has

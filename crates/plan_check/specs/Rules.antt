@@ -17,6 +17,10 @@ abbrev pub Breaks : List (ℕ × Type 0) → (line : ℕ) → Type 0
 Breaks [] line = ⊥
 Breaks (rule ∷ rules) line = ((line ≡ rule.0) × (rule.1 → ⊥)) ⊎ Breaks rules line
 
+-- None, and then this fact holds, or else the first line at which a rule does not
+abbrev pub UnlessBroken : List (ℕ × Type 0) → (fact : Type 0) → Option ℕ → Type 0
+UnlessBroken rules fact result = MatchOption result fact (IsFirst (Breaks rules))
+
 -- None if all of them hold, or else the first line at which one does not
 abbrev pub IsFirstBroken : List (ℕ × Type 0) → Option ℕ → Type 0
-IsFirstBroken rules result = MatchOption result (Keeps rules) (IsFirst (Breaks rules))
+IsFirstBroken rules result = UnlessBroken rules (Keeps rules) result

@@ -1,19 +1,15 @@
 // The ages of live reads by printed delays, which may be any numbers of 64 bits.
 
-ghost use Rattle.std.specs.Prelude.{◌≡◌, ◌≢◌, max, ◌≤◌, ◌<◌, pos, ◌≤ℤ◌, IsTrue, unsigned_abs, length, All};
-ghost use Rattle.dk_base.specs.declared.TheConstants.{MAX_SIDE};
-ghost use Rattle.raster_delay.specs.Delays.{IsNear, AreReads, offset, age_of, depth_of};
-ghost use Rattle.plan_check.specs.Holding.{delays_of};
+ghost use Rattle.std.specs.Prelude.{◌≡◌, ◌↔◌, max, [], ◌∷◌, IsTrue, length, All};
+ghost use Rattle.raster_delay.specs.Delays.{AreReadsOf, IsReadAmong, age_of, depth_of};
+ghost use Rattle.plan_check.specs.Holding.{IsOldOf, delays_of};
 
 use raster_delay::{PlacedRead, age};
 use report_text::ImageLine;
 
 // How old a read is by the printed delays.
 fn printed_age(row: u32, images: &[ImageLine], r: PlacedRead) -> i128
-    requires row { row ≤ MAX_SIDE }
-    requires near { IsNear (offset row r) }
-    requires reader { r.f < length images.now }
-    requires earlier { r.g < length images.now }
+    requires { IsReadAmong row (length images.now) r }
     ensures { result ≡ age_of row (delays_of images.now) r }
 {
     age(row, images[r.f].delay, images[r.g].delay, r)
@@ -21,12 +17,8 @@ fn printed_age(row: u32, images: &[ImageLine], r: PlacedRead) -> i128
 
 // Whether a read is at least so old, where it is of the image at place `g`.
 fn is_old(row: u32, least: u8, images: &[ImageLine], r: PlacedRead, g: usize) -> bool
-    requires row { row ≤ MAX_SIDE }
-    requires near { IsNear (offset row r) }
-    requires reader { r.f < length images.now }
-    requires earlier { r.g < length images.now }
-    ensures yes { IsTrue result → r.g ≡ g → pos least ≤ℤ age_of row (delays_of images.now) r }
-    ensures no { (r.g ≡ g → pos least ≤ℤ age_of row (delays_of images.now) r) → IsTrue result }
+    requires { IsReadAmong row (length images.now) r }
+    ensures { IsTrue result ↔ IsOldOf row least (delays_of images.now) g r }
 {
     if r.g != g {
         return true;
@@ -43,10 +35,8 @@ pub(crate) fn are_old(
     reads: &[PlacedRead],
     g: usize,
 ) -> bool
-    requires row { row ≤ MAX_SIDE }
-    requires reads { AreReads row inputs (length images.now) reads.now }
-    ensures yes { IsTrue result → All (λ r. r.g ≡ g → pos least ≤ℤ age_of row (delays_of images.now) r) reads.now }
-    ensures no { All (λ r. r.g ≡ g → pos least ≤ℤ age_of row (delays_of images.now) r) reads.now → IsTrue result }
+    requires { AreReadsOf row inputs (length images.now) reads.now }
+    ensures { IsTrue result ↔ All (IsOldOf row least (delays_of images.now) g) reads.now }
 {
     for r in reads {
         if !is_old(row, least, images, *r, g) {
@@ -58,12 +48,8 @@ pub(crate) fn are_old(
 
 // The greatest of an age and of a read's age, where the read is of the image at place `g`.
 fn deeper(row: u32, images: &[ImageLine], r: PlacedRead, g: usize, greatest: u128) -> u128
-    requires row { row ≤ MAX_SIDE }
-    requires near { IsNear (offset row r) }
-    requires reader { r.f < length images.now }
-    requires earlier { r.g < length images.now }
-    ensures of_it { r.g ≡ g → result ≡ max greatest (unsigned_abs (age_of row (delays_of images.now) r)) }
-    ensures of_others { r.g ≢ g → result ≡ greatest }
+    requires { IsReadAmong row (length images.now) r }
+    ensures { result ≡ max greatest (depth_of row (delays_of images.now) (r ∷ []) g) }
 {
     if r.g == g {
         greatest.max(printed_age(row, images, r).unsigned_abs())
@@ -80,8 +66,7 @@ pub(crate) fn depth(
     reads: &[PlacedRead],
     g: usize,
 ) -> u128
-    requires row { row ≤ MAX_SIDE }
-    requires reads { AreReads row inputs (length images.now) reads.now }
+    requires { AreReadsOf row inputs (length images.now) reads.now }
     ensures { result ≡ depth_of row (delays_of images.now) reads.now g }
 {
     let mut greatest: u128 = 0;

@@ -1,16 +1,16 @@
 // Whether a report holds by its printed numbers.
 
-ghost use Rattle.std.specs.Prelude.{◌≡◌, ◌≤◌, ◌<◌, ◌^◌, ◌+◌, ℕ, [], ◌∷◌, length, All, IsTrue, MatchOption};
-ghost use Rattle.dk_base.specs.declared.TheConstants.{MAX_SIDE, MAX_KEPT_IMAGES, MAX_OUTPUTS};
-ghost use Rattle.raster_delay.specs.Systems.{image_count, bits};
+ghost use Rattle.std.specs.Prelude.{◌≡◌, ◌≤◌, ◌<◌, ◌^◌, ℕ, length};
+ghost use Rattle.dk_base.specs.declared.TheConstants.{MAX_SIDE};
+ghost use Rattle.raster_delay.specs.Systems.{image_count};
 ghost use Rattle.report_text.specs.Reports.{parts_of, Ascend};
 ghost use Rattle.plan_check.specs.declared.verdict.Verdict.TheVariants as verdict;
-ghost use Rattle.plan_check.specs.Numbering.{size_number, latency_number, clocks_number, bits_number, last_number};
-ghost use Rattle.plan_check.specs.Holding.{ImageHolds, LatencyHolds, HasConstraint, AreLeast, delays, clocks_of};
-ghost use Rattle.plan_check.specs.Judging.{Judges, Suits, line_at, number_rules};
-ghost use Rattle.report_text.specs.Layout.{unless_first, reads_line, end_line};
-ghost use Rattle.plan_check.specs.First.{IsFirst, Misses};
-ghost use Rattle.plan_check.specs.Rules.{Breaks};
+ghost use Rattle.plan_check.specs.Numbering.{last_number};
+ghost use Rattle.plan_check.specs.Holding.{ImageHolds, LatencyHolds, AreLeast, clocks_of};
+ghost use Rattle.plan_check.specs.Judging.{Judges, NamesConstraint, Suits, number_rules};
+ghost use Rattle.plan_check.specs.First.{IsFirstMiss};
+ghost use Rattle.plan_check.specs.Rules.{UnlessBroken};
+ghost use Rattle.plan_check.specs.Stages.{HasFewLines, HaveLines, SurroundsFlow, ImagesHold, LatenciesHold, TotalsHold};
 
 use crate::flow::flow_holds;
 use crate::lines::{has_constraint, image_holds, latency_holds};
@@ -23,8 +23,7 @@ use report_text::{FlowLine, ImageLine, Report};
 // The place of the first image line that is wrong.
 fn wrong_image(system: &System, images: &[ImageLine]) -> Option<usize>
     requires count { length images.now ≡ image_count system.now }
-    ensures { MatchOption result ((k : ℕ) → k < length images.now
-        → ImageHolds system.now images.now k) (IsFirst (Misses (ImageHolds system.now images.now) (length images.now))) }
+    ensures { IsFirstMiss (ImageHolds system.now images.now) (length images.now) result }
 {
     for k in 0..images.len() {
         if !image_holds(system, images, k) {
@@ -36,10 +35,9 @@ fn wrong_image(system: &System, images: &[ImageLine]) -> Option<usize>
 
 // The place of the first latency line that is wrong.
 fn wrong_latency(system: &System, images: &[ImageLine], latencies: &[u64]) -> Option<usize>
-    requires count { length images.now ≡ image_count system.now }
-    requires outputs { length latencies.now ≡ length system.now.stencils.outputs }
-    ensures { MatchOption result ((k : ℕ) → k < length latencies.now
-        → LatencyHolds system.now images.now latencies.now k) (IsFirst (Misses (LatencyHolds system.now images.now latencies.now) (length latencies.now))) }
+    requires { HaveLines system.now images.now latencies.now }
+    ensures { IsFirstMiss (LatencyHolds system.now images.now latencies.now)
+        (length latencies.now) result }
 {
     for k in 0..latencies.len() {
         if !latency_holds(system, images, latencies, k) {
@@ -51,8 +49,7 @@ fn wrong_latency(system: &System, images: &[ImageLine], latencies: &[u64]) -> Op
 
 // The place of the first flow line of no constraint.
 fn wrong_constraint(system: &System, flow: &[FlowLine]) -> Option<usize>
-    ensures { MatchOption result ((k : ℕ) → k < length flow.now
-        → HasConstraint system.now (line_at flow.now k)) (IsFirst (Misses (λ k. HasConstraint system.now (line_at flow.now k)) (length flow.now))) }
+    ensures { IsFirstMiss (NamesConstraint system.now flow.now) (length flow.now) result }
 {
     for k in 0..flow.len() {
         if !has_constraint(system, flow[k]) {
@@ -63,28 +60,24 @@ fn wrong_constraint(system: &System, flow: &[FlowLine]) -> Option<usize>
 }
 
 // A law: flow lines that ascend and name constraints are few, since there are few constraints.
-fn few_lines_law(system: &System, flow: &[FlowLine], count: usize)
+fn few_lines_law(system: &System, flow: &[FlowLine])
     requires ascending { Ascend flow.now }
-    requires within { count ≤ length flow.now }
-    requires constraints { (k : ℕ) → k < count → HasConstraint system.now (line_at flow.now k) }
-    ensures { count ≤ 2 ^ 18 }
+    requires constraints { (k : ℕ) → k < length flow.now → NamesConstraint system.now flow.now k }
+    ensures { length flow.now ≤ 2 ^ 18 }
 {
     system.law();
 }
 
 // How many lines are between that of the bits and the flow lines, and how many after those.
 fn between(report: &Report) -> u64
-    ensures before { result ≡ length (unless_first report.now.version (reads_line report.now.reads ∷ [])) }
-    ensures behind { result ≡ length (unless_first report.now.version (end_line ∷ [])) }
-    ensures most { result ≤ 1 }
+    ensures { SurroundsFlow (parts_of report.now) result }
 {
     if report.version == 1 { 0 } else { 1 }
 }
 
 // The number of the last line.
 fn last_line(report: &Report) -> u64
-    requires images { length report.now.images.items ≤ MAX_KEPT_IMAGES }
-    requires latencies { length report.now.latencies.items ≤ MAX_OUTPUTS }
+    requires lines { HasFewLines (parts_of report.now) }
     requires few { length report.now.flow.items ≤ 2 ^ 32 }
     ensures { result ≡ last_number (parts_of report.now) }
 {
@@ -94,8 +87,7 @@ fn last_line(report: &Report) -> u64
 // How many lines of images and latencies there are.
 fn counts(system: &System, report: &Report)
     requires { Suits system.now (parts_of report.now) }
-    ensures images { length report.now.images.items ≤ MAX_KEPT_IMAGES }
-    ensures latencies { length report.now.latencies.items ≤ MAX_OUTPUTS }
+    ensures { HasFewLines (parts_of report.now) }
 {
     system.law();
 }
@@ -103,8 +95,8 @@ fn counts(system: &System, report: &Report)
 // The first wrong line of an image.
 fn faulty_image(system: &System, report: &Report) -> Option<u64>
     requires { Suits system.now (parts_of report.now) }
-    ensures { MatchOption result ((k : ℕ) → k < length report.now.images.items
-        → ImageHolds system.now report.now.images.items k) (IsFirst (Breaks (number_rules system.now (parts_of report.now)))) }
+    ensures { UnlessBroken (number_rules system.now (parts_of report.now))
+        (ImagesHold system.now (parts_of report.now)) result }
 {
     counts(system, report);
     match wrong_image(system, &report.images) {
@@ -115,10 +107,9 @@ fn faulty_image(system: &System, report: &Report) -> Option<u64>
 
 // The first wrong line of a latency, where none before them is wrong.
 fn faulty_latency(system: &System, report: &Report) -> Option<u64>
-    requires suits { Suits system.now (parts_of report.now) }
-    requires images { (k : ℕ) → k < length report.now.images.items → ImageHolds system.now report.now.images.items k }
-    ensures { MatchOption result ((k : ℕ) → k < length report.now.latencies.items
-        → LatencyHolds system.now report.now.images.items report.now.latencies.items k) (IsFirst (Breaks (number_rules system.now (parts_of report.now)))) }
+    requires { ImagesHold system.now (parts_of report.now) }
+    ensures { UnlessBroken (number_rules system.now (parts_of report.now))
+        (LatenciesHold system.now (parts_of report.now)) result }
 {
     counts(system, report);
     match wrong_latency(system, &report.images, &report.latencies) {
@@ -139,11 +130,9 @@ fn clocks(report: &Report) -> u128
 
 // The line of the clocks or of the bits, where it is wrong and none before it is.
 fn faulty_sum(system: &System, report: &Report) -> Option<u64>
-    requires suits { Suits system.now (parts_of report.now) }
-    requires images { (k : ℕ) → k < length report.now.images.items → ImageHolds system.now report.now.images.items k }
-    requires latencies { (k : ℕ) → k < length report.now.latencies.items → LatencyHolds system.now report.now.images.items report.now.latencies.items k }
-    ensures { MatchOption result ((report.now.clocks ≡ clocks_of (parts_of report.now))
-        × (report.now.bits ≡ bits system.now (delays (parts_of report.now)))) (IsFirst (Breaks (number_rules system.now (parts_of report.now)))) }
+    requires { LatenciesHold system.now (parts_of report.now) }
+    ensures { UnlessBroken (number_rules system.now (parts_of report.now))
+        (TotalsHold system.now (parts_of report.now)) result }
 {
     system.law();
     counts(system, report);
@@ -158,13 +147,10 @@ fn faulty_sum(system: &System, report: &Report) -> Option<u64>
 
 // The first flow line of no constraint, where none before the flow lines is wrong.
 fn faulty_constraint(system: &System, report: &Report) -> Option<u64>
-    requires suits { Suits system.now (parts_of report.now) }
-    requires images { (k : ℕ) → k < length report.now.images.items → ImageHolds system.now report.now.images.items k }
-    requires latencies { (k : ℕ) → k < length report.now.latencies.items → LatencyHolds system.now report.now.images.items report.now.latencies.items k }
-    requires clocks { report.now.clocks ≡ clocks_of (parts_of report.now) }
-    requires bits { report.now.bits ≡ bits system.now (delays (parts_of report.now)) }
-    ensures { MatchOption result ((k : ℕ) → k < length report.now.flow.items
-        → HasConstraint system.now (line_at report.now.flow.items k)) (IsFirst (Breaks (number_rules system.now (parts_of report.now)))) }
+    requires { TotalsHold system.now (parts_of report.now) }
+    ensures { UnlessBroken (number_rules system.now (parts_of report.now))
+        ((k : ℕ) → k < length report.now.flow.items
+        → NamesConstraint system.now report.now.flow.items k) result }
 {
     counts(system, report);
     match wrong_constraint(system, &report.flow) {
@@ -197,7 +183,7 @@ pub fn check(system: &System, report: &Report) -> Verdict
         None => {}
         Some(line) => return Verdict::No { line },
     }
-    few_lines_law(system, &report.flow, report.flow.len());
+    few_lines_law(system, &report.flow);
     if flow_holds(system, &report.flow, report.bits) {
         Verdict::Yes
     } else {

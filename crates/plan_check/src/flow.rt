@@ -1,14 +1,12 @@
 // Whether the flow is balanced, and what it is worth.
 
-ghost use Rattle.std.specs.Prelude.{◌≡◌, ◌≤◌, ◌<◌, ◌^◌, ◌+◌, ◌==◌, ◌↔◌, if◌then◌else◌, ℕ, pos, neg_ℤ, ◌-ℤ◌, ◌*ℤ◌, ◌≤ℤ◌, length, slice_index, All, Contains, IsTrue};
-ghost use Rattle.dk_base.specs.declared.TheConstants.{MAX_SIDE, MAX_AGE, MAX_KEPT_IMAGES};
-ghost use Rattle.raster_delay.specs.Network.{inflow, outflow, worth};
-ghost use Rattle.raster_delay.specs.Delays.{IsNear, IsSmall, offset};
-ghost use Rattle.raster_delay.specs.Systems.{image_count, placed_reads, nodes, coefficient_in};
-ghost use Rattle.report_text.specs.Reports.{Ascend};
+ghost use Rattle.std.specs.Prelude.{◌≡◌, ◌≤◌, ◌<◌, ◌^◌, ◌↔◌, ℕ, pos, neg_ℤ, ◌-ℤ◌, ◌≤ℤ◌, length, slice_index, Contains, IsTrue};
+ghost use Rattle.raster_delay.specs.Network.{worth};
+ghost use Rattle.raster_delay.specs.Delays.{IsReadAmong};
+ghost use Rattle.raster_delay.specs.Systems.{image_count, placed_reads, coefficient_in};
 ghost use Rattle.plan_check.specs.Flows.{amount_of};
 ghost use Rattle.plan_check.specs.Holding.{HasConstraint, FlowHolds};
-ghost use Rattle.plan_check.specs.Sums.{SumsHold, constraint_of, carriers, amounts};
+ghost use Rattle.plan_check.specs.Sums.{AddsAt, AreEven, AreFlowLines, AreSums, IsBounded, IsLimited, IsPrice, SumsHold, amounts, carriers, constraint_of, inflow_of, outflow_of};
 
 use crate::lines::named;
 use raster_delay::{
@@ -23,19 +21,14 @@ const MOST_NODES: usize = 528;
 // What a system's limits say of a live read.
 fn read_law(system: &System, r: PlacedRead)
     requires { Contains (placed_reads system.now) r }
-    ensures near { IsNear (offset system.now.stencils.width r) }
-    ensures reader { r.f < image_count system.now }
-    ensures source { r.g < image_count system.now }
+    ensures { IsReadAmong system.now.stencils.width (image_count system.now) r }
 {
     system.law();
 }
 
 // What a system's limits are.
 fn limits(system: &System)
-    ensures row { system.now.stencils.width ≤ MAX_SIDE }
-    ensures age { system.now.age ≤ MAX_AGE }
-    ensures inputs { system.now.stencils.inputs ≤ image_count system.now }
-    ensures images { image_count system.now ≤ MAX_KEPT_IMAGES }
+    ensures { IsLimited system.now }
 {
     system.law();
 }
@@ -88,11 +81,10 @@ fn amount_of(line: FlowLine) -> u64
     }
 }
 
-// Between which nodes a flow line's constraint is.
-fn node_law(system: &System, line: FlowLine)
+// Between which nodes a flow line's constraint is, and how small its cost is.
+fn constraint_law(system: &System, line: FlowLine)
     requires { HasConstraint system.now line }
-    ensures source { (constraint_of system.now line).source < nodes system.now }
-    ensures target { (constraint_of system.now line).target < nodes system.now }
+    ensures { IsBounded system.now (constraint_of system.now line) }
 {
     system.law();
 }
@@ -101,8 +93,7 @@ fn node_law(system: &System, line: FlowLine)
 fn add_at(sums: &mut [u128], node: usize, amount: u64)
     requires within { node < length sums.old }
     requires room { slice_index sums.old node ≤ 2 ^ 100 }
-    ensures value { (v : ℕ) → slice_index sums.new v ≡ slice_index sums.old v + (if node == v then amount else 0) }
-    ensures most { (v : ℕ) → slice_index sums.new v ≤ slice_index sums.old v + 2 ^ 64 }
+    ensures { AddsAt sums.old sums.new node amount }
 {
     sums[node] += u128::from(amount);
 }
@@ -110,17 +101,13 @@ fn add_at(sums: &mut [u128], node: usize, amount: u64)
 // Adds what a flow line brings to its target, and what it takes from its source.
 fn add_line(system: &System, line: FlowLine, brought: &mut [u128], taken: &mut [u128])
     requires constraint { HasConstraint system.now line }
-    requires some_brought { nodes system.now ≤ length brought.old }
-    requires some_taken { nodes system.now ≤ length taken.old }
-    requires brought { (v : ℕ) → slice_index brought.old v ≤ 2 ^ 100 }
-    requires taken { (v : ℕ) → slice_index taken.old v ≤ 2 ^ 100 }
-    ensures brought { (v : ℕ)
-        → slice_index brought.new v ≡ slice_index brought.old v + (if (constraint_of system.now line).target == v then amount_of line else 0) }
-    ensures taken { (v : ℕ) → slice_index taken.new v ≡ slice_index taken.old v + (if (constraint_of system.now line).source == v then amount_of line else 0) }
-    ensures few_brought { (v : ℕ) → slice_index brought.new v ≤ slice_index brought.old v + 2 ^ 64 }
-    ensures few_taken { (v : ℕ) → slice_index taken.new v ≤ slice_index taken.old v + 2 ^ 64 }
+    requires sums { AreSums system.now (2 ^ 100) brought.old taken.old }
+    ensures brought { AddsAt brought.old brought.new
+        (constraint_of system.now line).target (amount_of line) }
+    ensures taken { AddsAt taken.old taken.new
+        (constraint_of system.now line).source (amount_of line) }
 {
-    node_law(system, line);
+    constraint_law(system, line);
     let constraint = constraint_of(system, line);
     let amount = amount_of(line);
     add_at(brought, constraint.target, amount);
@@ -129,16 +116,11 @@ fn add_line(system: &System, line: FlowLine, brought: &mut [u128], taken: &mut [
 
 // What flows into each node, and what flows out.
 fn tally(system: &System, flow: &[FlowLine], brought: &mut [u128], taken: &mut [u128])
-    requires constraints { All (HasConstraint system.now) flow.now }
-    requires few { length flow.now ≤ 2 ^ 32 }
-    requires some_brought { nodes system.now ≤ length brought.old }
-    requires some_taken { nodes system.now ≤ length taken.old }
-    requires none_brought { (v : ℕ) → slice_index brought.old v ≡ 0 }
-    requires none_taken { (v : ℕ) → slice_index taken.old v ≡ 0 }
-    ensures brought { (v : ℕ) → slice_index brought.new v ≡ inflow (carriers system.now flow.now) (amounts flow.now) v }
-    ensures taken { (v : ℕ) → slice_index taken.new v ≡ outflow (carriers system.now flow.now) (amounts flow.now) v }
-    ensures few_brought { (v : ℕ) → slice_index brought.new v ≤ 2 ^ 100 }
-    ensures few_taken { (v : ℕ) → slice_index taken.new v ≤ 2 ^ 100 }
+    requires lines { AreFlowLines system.now flow.now }
+    requires none { AreSums system.now 0 brought.old taken.old }
+    ensures brought { (v : ℕ) → slice_index brought.new v ≡ inflow_of system.now flow.now v }
+    ensures taken { (v : ℕ) → slice_index taken.new v ≡ outflow_of system.now flow.now v }
+    ensures sums { AreSums system.now (2 ^ 100) brought.new taken.new }
 {
     for line in flow {
         add_line(system, *line, brought, taken);
@@ -156,14 +138,8 @@ fn is_even(system: &System, node: usize, brought: u128, taken: u128) -> bool
 
 // Whether that holds at each node.
 fn are_even(system: &System, brought: &[u128], taken: &[u128]) -> bool
-    requires some_brought { nodes system.now ≤ length brought.now }
-    requires some_taken { nodes system.now ≤ length taken.now }
-    requires few_brought { (v : ℕ) → slice_index brought.now v ≤ 2 ^ 100 }
-    requires few_taken { (v : ℕ) → slice_index taken.now v ≤ 2 ^ 100 }
-    ensures yes { IsTrue result → (v : ℕ) → v < nodes system.now
-        → pos (slice_index brought.now v) -ℤ pos (slice_index taken.now v) ≡ coefficient_in system.now v }
-    ensures no { ((v : ℕ) → v < nodes system.now → pos (slice_index brought.now v) -ℤ pos (slice_index taken.now v) ≡ coefficient_in system.now v)
-        → IsTrue result }
+    requires { AreSums system.now (2 ^ 100) brought.now taken.now }
+    ensures { IsTrue result ↔ AreEven system.now (slice_index brought.now) (slice_index taken.now) }
 {
     for node in 0..system.nodes() {
         if !is_even(system, node, brought[node], taken[node]) {
@@ -175,14 +151,9 @@ fn are_even(system: &System, brought: &[u128], taken: &[u128]) -> bool
 
 // Whether at each node what flows in less what flows out is the coefficient, in one pass over the flow lines.
 fn is_balanced(system: &System, flow: &[FlowLine]) -> bool
-    requires constraints { All (HasConstraint system.now) flow.now }
-    requires few { length flow.now ≤ 2 ^ 32 }
-    ensures yes { IsTrue result → (v : ℕ) → v < nodes system.now
-        → pos (inflow (carriers system.now flow.now) (amounts flow.now) v) -ℤ pos (outflow (carriers system.now flow.now) (amounts flow.now) v)
-        ≡ coefficient_in system.now v }
-    ensures no { ((v : ℕ) → v < nodes system.now
-        → pos (inflow (carriers system.now flow.now) (amounts flow.now) v) -ℤ pos (outflow (carriers system.now flow.now) (amounts flow.now) v)
-        ≡ coefficient_in system.now v) → IsTrue result }
+    requires { AreFlowLines system.now flow.now }
+    ensures { IsTrue result
+        ↔ AreEven system.now (inflow_of system.now flow.now) (outflow_of system.now flow.now) }
 {
     system.law();
     let mut brought = [0; MOST_NODES];
@@ -195,9 +166,7 @@ fn is_balanced(system: &System, flow: &[FlowLine]) -> bool
 fn price(cost: i64, amount: u64) -> i128
     requires low { neg_ℤ (pos (2 ^ 25)) ≤ℤ cost }
     requires high { cost ≤ℤ pos (2 ^ 25) }
-    ensures value { result ≡ cost *ℤ pos amount }
-    ensures least { neg_ℤ (pos (2 ^ 89)) ≤ℤ result }
-    ensures most { result ≤ℤ pos (2 ^ 89) }
+    ensures { IsPrice cost amount result }
 {
     let size = u128::from(cost.unsigned_abs()) * u128::from(amount);
     if cost < 0 {
@@ -209,8 +178,7 @@ fn price(cost: i64, amount: u64) -> i128
 
 // The sum of cost times flow.
 fn worth(system: &System, flow: &[FlowLine]) -> i128
-    requires constraints { All (HasConstraint system.now) flow.now }
-    requires few { length flow.now ≤ 2 ^ 32 }
+    requires { AreFlowLines system.now flow.now }
     ensures { result ≡ worth (carriers system.now flow.now) (amounts flow.now) }
 {
     let mut sum: i128 = 0;
@@ -220,31 +188,19 @@ fn worth(system: &System, flow: &[FlowLine]) -> i128
     sum
 }
 
-// What a system's limits say of the cost of a constraint.
-fn cost_law(system: &System, line: FlowLine)
-    requires { HasConstraint system.now line }
-    ensures { IsSmall (constraint_of system.now line) }
-{
-    system.law();
-}
-
 // The cost of a flow line's constraint, times what it carries.
 fn price_of(system: &System, line: FlowLine) -> i128
     requires { HasConstraint system.now line }
-    ensures value { result ≡ (constraint_of system.now line).cost *ℤ pos (amount_of line) }
-    ensures least { neg_ℤ (pos (2 ^ 89)) ≤ℤ result }
-    ensures most { result ≤ℤ pos (2 ^ 89) }
+    ensures { IsPrice (constraint_of system.now line).cost (amount_of line) result }
 {
-    cost_law(system, line);
+    constraint_law(system, line);
     price(constraint_of(system, line).cost, amount_of(line))
 }
 
 // Whether the flow lines are balanced and worth these bits, each on the constraint that it names.
 fn sums_hold(system: &System, flow: &[FlowLine], bits: u64) -> bool
-    requires constraints { All (HasConstraint system.now) flow.now }
-    requires few { length flow.now ≤ 2 ^ 32 }
-    ensures yes { IsTrue result → SumsHold system.now flow.now bits }
-    ensures no { SumsHold system.now flow.now bits → IsTrue result }
+    requires { AreFlowLines system.now flow.now }
+    ensures { IsTrue result ↔ SumsHold system.now flow.now bits }
 {
     if !is_balanced(system, flow) {
         return false;
@@ -254,21 +210,16 @@ fn sums_hold(system: &System, flow: &[FlowLine], bits: u64) -> bool
 
 // A law: lines in order that name constraints sum to what the flow does whose lines they are.
 fn sums_law(system: &System, flow: &[FlowLine], bits: u64)
-    requires constraints { All (HasConstraint system.now) flow.now }
-    requires ascending { Ascend flow.now }
-    ensures yes { SumsHold system.now flow.now bits → FlowHolds system.now flow.now bits }
-    ensures no { FlowHolds system.now flow.now bits → SumsHold system.now flow.now bits }
+    requires { AreFlowLines system.now flow.now }
+    ensures { SumsHold system.now flow.now bits ↔ FlowHolds system.now flow.now bits }
 {
     system.law();
 }
 
 /// Whether the flow lines are those of a balanced flow that is worth these bits.
 pub(crate) fn flow_holds(system: &System, flow: &[FlowLine], bits: u64) -> bool
-    requires constraints { All (HasConstraint system.now) flow.now }
-    requires ascending { Ascend flow.now }
-    requires few { length flow.now ≤ 2 ^ 32 }
-    ensures yes { IsTrue result → FlowHolds system.now flow.now bits }
-    ensures no { FlowHolds system.now flow.now bits → IsTrue result }
+    requires { AreFlowLines system.now flow.now }
+    ensures { IsTrue result ↔ FlowHolds system.now flow.now bits }
 {
     sums_law(system, flow, bits);
     sums_hold(system, flow, bits)

@@ -1,12 +1,11 @@
 // Whether a report is that of a program.
 
-ghost use Rattle.std.specs.Prelude.{◌≡◌, ◌<◌, length, All};
-ghost use Rattle.dk_base.specs.declared.stencils.Image.{Image};
+ghost use Rattle.std.specs.Prelude.{◌≡◌};
 ghost use Rattle.pointwise_ir.specs.Programs.{names_of};
 ghost use Rattle.report_text.specs.Reports.{Meets, parts_of};
 ghost use Rattle.plan_check.specs.declared.verdict.Verdict.TheVariants as verdict;
 ghost use Rattle.plan_check.specs.Holding.{AreLeast};
-ghost use Rattle.plan_check.specs.Program.{JudgesOf, IsAmiss, program_rules};
+ghost use Rattle.plan_check.specs.Program.{AreNamed, JudgesOf, IsAmiss, program_rules};
 ghost use Rattle.plan_check.specs.First.{IsFirst};
 ghost use Rattle.plan_check.specs.Rules.{Breaks};
 
@@ -22,7 +21,8 @@ use report_text::Report;
 fn first_amiss(ir: &Program, system: &System, report: &Report, line: u64) -> u64
     requires meets { Meets (parts_of report.now) }
     requires age { report.now.age ≡ system.now.age }
-    requires foreign { IsFirst (Breaks (program_rules (names_of ir.now) system.now.stencils (parts_of report.now))) line }
+    requires foreign { IsFirst
+        (Breaks (program_rules (names_of ir.now) system.now.stencils (parts_of report.now))) line }
     ensures { IsFirst (IsAmiss (names_of ir.now) system.now (parts_of report.now)) result }
 {
     if !is_of_counts(system, report) {
@@ -39,7 +39,7 @@ pub fn judge(ir: &Program, stencils: &Stencils, system: &System, report: &Report
     requires meets { Meets (parts_of report.now) }
     requires age { report.now.age ≡ system.now.age }
     requires stencils { stencils.now ≡ system.now.stencils }
-    requires images { All (λ (i : Image). i.number < length (names_of ir.now)) system.now.stencils.images }
+    requires images { AreNamed (names_of ir.now) system.now.stencils.images }
     ensures judged { JudgesOf (names_of ir.now) system.now (parts_of report.now) result }
     ensures least { result ≡ verdict.Yes → AreLeast system.now (parts_of report.now) }
 {

@@ -1,10 +1,11 @@
 // Whether the lines of images, latencies and flow hold.
 
-ghost use Rattle.std.specs.Prelude.{◌≡◌, ◌≤◌, ◌<◌, length, slice_index, IsTrue, Contains};
+ghost use Rattle.std.specs.Prelude.{◌≡◌, ◌<◌, ◌↔◌, length, slice_index, IsTrue, Contains};
 ghost use Rattle.dk_base.specs.Stencils.{place};
 ghost use Rattle.raster_delay.specs.Systems.{image_count, placed_reads};
 ghost use Rattle.plan_check.specs.Orders.{IsEarlier, AreSorted};
 ghost use Rattle.plan_check.specs.Holding.{ImageHolds, LatencyHolds, HasConstraint, read_at};
+ghost use Rattle.plan_check.specs.Stages.{HaveLines};
 
 use crate::ages::{are_old, depth};
 use dk_base::is_before;
@@ -15,8 +16,7 @@ use report_text::{FlowLine, ImageLine};
 pub(crate) fn image_holds(system: &System, images: &[ImageLine], k: usize) -> bool
     requires count { length images.now ≡ image_count system.now }
     requires place { k < length images.now }
-    ensures yes { IsTrue result → ImageHolds system.now images.now k }
-    ensures no { ImageHolds system.now images.now k → IsTrue result }
+    ensures { IsTrue result ↔ ImageHolds system.now images.now k }
 {
     system.law();
     let row = system.width();
@@ -38,7 +38,8 @@ pub(crate) fn image_holds(system: &System, images: &[ImageLine], k: usize) -> bo
 // The place of the output numbered `k` among the kept images.
 fn output_place(system: &System, k: usize) -> usize
     requires { k < length system.now.stencils.outputs }
-    ensures place { result ≡ place system.now.stencils.images (slice_index system.now.stencils.outputs k) }
+    ensures place { result
+        ≡ place system.now.stencils.images (slice_index system.now.stencils.outputs k) }
     ensures within { result < image_count system.now }
 {
     system.law();
@@ -52,11 +53,9 @@ pub(crate) fn latency_holds(
     latencies: &[u64],
     k: usize,
 ) -> bool
-    requires count { length images.now ≡ image_count system.now }
-    requires outputs { length latencies.now ≡ length system.now.stencils.outputs }
+    requires lines { HaveLines system.now images.now latencies.now }
     requires place { k < length latencies.now }
-    ensures yes { IsTrue result → LatencyHolds system.now images.now latencies.now k }
-    ensures no { LatencyHolds system.now images.now latencies.now k → IsTrue result }
+    ensures { IsTrue result ↔ LatencyHolds system.now images.now latencies.now k }
 {
     let place = output_place(system, k);
     latencies[k] == images[place].delay
@@ -64,8 +63,7 @@ pub(crate) fn latency_holds(
 
 // Whether one live read comes before another.
 fn is_earlier(a: PlacedRead, b: PlacedRead) -> bool
-    ensures yes { IsTrue result → IsEarlier a b }
-    ensures no { IsEarlier a b → IsTrue result }
+    ensures { IsTrue result ↔ IsEarlier a b }
 {
     is_before((a.f, a.g, a.dy, a.dx), (b.f, b.g, b.dy, b.dx))
 }
@@ -78,8 +76,7 @@ fn order_law(system: &System)
 }
 
 fn is_same(a: PlacedRead, b: PlacedRead) -> bool
-    ensures yes { IsTrue result → a ≡ b }
-    ensures no { a ≡ b → IsTrue result }
+    ensures { IsTrue result ↔ (a ≡ b) }
 {
     a == b
 }
@@ -87,8 +84,7 @@ fn is_same(a: PlacedRead, b: PlacedRead) -> bool
 // Whether there is such a live read, by halves.
 fn is_read(reads: &[PlacedRead], read: PlacedRead) -> bool
     requires { AreSorted reads.now }
-    ensures yes { IsTrue result → Contains reads.now read }
-    ensures no { Contains reads.now read → IsTrue result }
+    ensures { IsTrue result ↔ Contains reads.now read }
 {
     let mut low = 0;
     let mut high = reads.len();
@@ -120,8 +116,7 @@ pub(crate) fn named(reader: usize, source: usize, dx: i32, dy: i32) -> PlacedRea
 
 // Whether there is the constraint of a flow line.
 pub(crate) fn has_constraint(system: &System, line: FlowLine) -> bool
-    ensures yes { IsTrue result → HasConstraint system.now line }
-    ensures no { HasConstraint system.now line → IsTrue result }
+    ensures { IsTrue result ↔ HasConstraint system.now line }
 {
     order_law(system);
     let reads = system.placed_reads();

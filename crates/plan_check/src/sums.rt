@@ -1,8 +1,9 @@
 // The numbers that follow from the image lines and the latency lines.
 
-ghost use Rattle.std.specs.Prelude.{◌≡◌, ◌≤◌, ◌<◌, ◌^◌, ◌*◌, length, max, sum_by};
+ghost use Rattle.std.specs.Prelude.{◌≡◌, ◌≤◌, ◌^◌, ◌*◌, length};
 ghost use Rattle.dk_base.specs.declared.TheConstants.{MAX_KEPT_IMAGES};
 ghost use Rattle.plan_check.specs.Holding.{greatest};
+ghost use Rattle.plan_check.specs.Stages.{IsCount};
 ghost use Rattle.plan_check.specs.Sums.{bits_of_lines};
 
 use report_text::ImageLine;
@@ -20,8 +21,7 @@ pub(crate) fn greatest(numbers: &[u64]) -> u64
 
 // An image's width times its depth.
 fn bits_of(image: &ImageLine) -> u128
-    ensures value { result ≡ image.now.width * image.now.depth }
-    ensures most { result ≤ 2 ^ 72 }
+    ensures { IsCount (2 ^ 72) (image.now.width * image.now.depth) result }
 {
     u128::from(image.width) * u128::from(image.depth)
 }

@@ -1,5 +1,5 @@
 -- The frames of the outputs.
-use Rattle.std.proofs.Common.{◌≡◌, ◌≢◌, ℕ, zero, suc, ◌+◌, ◌*◌, ◌/◌, ◌%◌, ◌^◌, ◌<◌, ◌≤◌, List, [], ◌∷◌, ◌++◌, length, map, take, get_or, ℤ, pos, unsigned_abs, ◌≤ℤ◌, ◌<ℤ◌, Some, slice_get, refl, ap, sym, ◌∙◌, subst, arith, inl, inr, mul_comm, if◌then◌else◌}
+use Rattle.std.proofs.Common.{◌≡◌, ◌≢◌, ℕ, zero, suc, ◌+◌, ◌*◌, ◌/◌, ◌%◌, ◌^◌, ◌<◌, ◌≤◌, List, [], ◌∷◌, ◌++◌, length, map, take, get_or, ℤ, pos, unsigned_abs, Some, slice_get, refl, ap, sym, ◌∙◌, subst, arith, inl, inr, mul_comm, if◌then◌else◌}
 use Rattle.std.specs.List.{All}
 use Rattle.std.proofs.Math.Nat.{mod-lt, div-add-mod, mul-le-mul_right}
 use Rattle.std.proofs.lemmas.Bool.{cases_lt}
@@ -19,7 +19,7 @@ use Rattle.pointwise_ir.specs.Programs.{Program, IsProgram, types_of}
 use Rattle.dk_base.specs.Frames.{picture_at}
 use Rattle.pointwise_eval.specs.declared.plane.Plane.{Plane}
 use Rattle.dk_frames.specs.declared.frame.Frame.{Frame}
-use Rattle.pointwise_eval.specs.Planes.{values_of, shown, all_shown, IsWhole, ShowsNeeded, IsOutputPlane}
+use Rattle.pointwise_eval.specs.Planes.{values_of, shown, all_shown, IsSample, IsWhole, ShowsNeeded, IsOutputPlane}
 use Rattle.pointwise_eval.specs.Rounds.{frame_of}
 use Rattle.pointwise_eval.specs.Needs.{AreNeeds, image_count}
 
@@ -61,7 +61,7 @@ place_is size k lt =
           absurd (omega (arith, few, turn, h))
     ]
 
-port_range : (t : Ty) (v : ℤ) → IsPort t → IsIn t v → (pos 0 ≤ℤ v) × (v <ℤ pos 65536)
+port_range : (t : Ty) (v : ℤ) → IsPort t → IsIn t v → IsSample v
 port_range (Unsigned n) v port is =
     let top : 2 ^ n ≤ 2 ^ 16 = pow_mono port.1 in
     let l = is.least in let g = is.greatest in
@@ -72,14 +72,14 @@ plane_is : (size : Size) (planes : List Plane) (g : ℕ) (q : Plane) → (w : Is
 plane_is size planes g q w is = sym (is ∙ get_or_from_slice_get planes g w.plane q w.there)
 
 -- the values of an output are samples
-pub output_range : (size : Size) (planes : List Plane) (g : ℕ) (q : Plane) → IsOutputPlane size planes g → q ≡ get_or planes g q → All (λ v. (pos 0 ≤ℤ v) × (v <ℤ pos 65536)) (values_of q)
-output_range size planes g q out is = subst (λ (r : Plane). All (λ v. (pos 0 ≤ℤ v) × (v <ℤ pos 65536)) (values_of r)) (plane_is size planes g q out.whole is) (λ k d lt.
+pub output_range : (size : Size) (planes : List Plane) (g : ℕ) (q : Plane) → IsOutputPlane size planes g → q ≡ get_or planes g q → All IsSample (values_of q)
+output_range size planes g q out is = subst (λ (r : Plane). All IsSample (values_of r)) (plane_is size planes g q out.whole is) (λ k d lt.
     let values = values_of out.whole.plane in
     let at = place_is size k (let h : k < area size = (let e = out.whole.whole in omega (arith, lt, e)) in h) in
     let same : picture_at (all_shown size planes) g (pos (k % size.width)) (pos (k / size.width)) ≡ get_or values k d =
     ap (λ (r : Picture). r (pos (k % size.width)) (pos (k / size.width))) (shown_entry size planes g out.whole.plane out.whole.there)
     ∙ shown_pixel size values (k % size.width) (k / size.width) at.column at.row ∙ ap (λ i. get_or values i (pos 0)) at.place ∙ get_or_default values k (pos 0) d lt in
-    subst (λ v. (pos 0 ≤ℤ v) × (v <ℤ pos 65536)) same (port_range out.ty _ out.port (out.values (pos (k % size.width)) (pos (k / size.width)))))
+    subst IsSample same (port_range out.ty _ out.port (out.values (pos (k % size.width)) (pos (k / size.width)))))
 
 -- they are the pixels of its picture in raster order
 pub output_is : (size : Size) (planes : List Plane) (g : ℕ) (q : Plane) → IsOutputPlane size planes g → q ≡ get_or planes g q → map unsigned_abs (values_of q) ≡ raster size (picture_at (all_shown size planes) g)

@@ -1,16 +1,17 @@
 -- The lanes of rows, and the expressions that they can compute.
-use Rattle.std.specs.Prelude.{◌≡◌, ℕ, ◌<◌, ℤ, List, length}
+use Rattle.std.specs.Prelude.{◌≡◌, ℕ, ◌<◌, ◌≤◌, ℤ, List, length}
+use Rattle.dk_base.specs.declared.TheConstants.{MAX_INLINED_DEPTH}
 use Rattle.dk_base.specs.declared.ty.Ty.{Ty}
 use Rattle.dk_base.specs.declared.ty.Ty.TheVariants.{Signed}
 use Rattle.dk_base.specs.Types.{IsIn}
 use Rattle.dk_base.specs.Frames.{Size, area, Picture}
-use Rattle.pointwise_ir.specs.Trees.{Tree, EachImage}
+use Rattle.pointwise_ir.specs.Trees.{Tree, EachImage, depth_of}
 use Rattle.value_ranges.specs.declared.interval.Interval.{Interval}
 use Rattle.value_ranges.specs.Parts.{AreBetween}
 use Rattle.pointwise_eval.specs.declared.lane.Lane.{Lane}
 use Rattle.pointwise_eval.specs.declared.lane.Lane.TheVariants.{Bits16, Bits32, Bits64}
 use Rattle.pointwise_eval.specs.declared.plane.Plane.{Plane}
-use Rattle.pointwise_eval.specs.Narrow.{ArePartsIn}
+use Rattle.pointwise_eval.specs.Narrow.{AreAllIn, ArePartsIn}
 use Rattle.pointwise_eval.specs.Planes.{shown, all_shown, HasRows, CanEvaluate}
 
 -- the type of a lane's elements
@@ -30,6 +31,15 @@ pub record FitsLane (lane : Ty) (size : Size) (planes : List Plane) (e : Tree) :
   pub can : CanEvaluate size planes e
   pub rows : EachImage (HasRows planes) e
   pub parts : ArePartsIn lane size (all_shown size planes) e
+
+-- Rows of this type can compute the expression, and elements of another can hold it.
+pub record FitsRows (lane_of ty : Ty) (size : Size) (planes : List Plane) (e : Tree) : Type 0 where
+  -- rows can compute it
+  pub lane : FitsLane lane_of size planes e
+  -- its values are of the other type
+  pub typed : AreAllIn size (all_shown size planes) e ty
+  -- it is not too deep for the rows that it needs
+  pub depth : depth_of e ≤ MAX_INLINED_DEPTH
 
 -- a lane of this type can have row y of values in raster order
 pub record IsReadable (lane : Ty) (size : Size) (values : List ℤ) (y : ℕ) : Type 0 where

@@ -1,5 +1,6 @@
 -- The values of an image in raster order, and the picture that they make.
-use Rattle.std.specs.Prelude.{◌≡◌, ℕ, ◌*◌, ◌+◌, ◌<◌, ℤ, pos, unsigned_abs, List, length, map, slice_get, slice_index_or, Option, Some, ◌⊎◌, Bool, IsTrue, IsFalse, []}
+use Rattle.std.specs.Prelude.{◌≡◌, ◌≢◌, ℕ, ◌*◌, ◌+◌, ◌<◌, ℤ, ◌≤ℤ◌, ◌<ℤ◌, pos, unsigned_abs, List, length, map, slice_get, slice_index_or, Option, Some, ◌⊎◌, Bool, IsTrue, IsFalse, []}
+use Rattle.std.specs.List.{All}
 use Rattle.dk_base.specs.declared.ty.Ty.{Ty}
 use Rattle.dk_base.specs.Types.{IsType, IsIn}
 use Rattle.dk_base.specs.Frames.{Size, area, Picture}
@@ -11,6 +12,8 @@ use Rattle.dk_base.specs.Frames.{framed, picture_at}
 use Rattle.pointwise_ir.specs.Meaning.{edged, value}
 use Rattle.pointwise_eval.specs.declared.plane.Plane.{Plane}
 use Rattle.pointwise_eval.specs.declared.plane.Plane.TheVariants.{Input8, Input16, Unsigned8, Unsigned16, Unsigned32, Signed8, Signed16, Signed32, Signed64, Wide, Gone}
+use Rattle.value_ranges.specs.declared.interval.Interval.{Interval}
+use Rattle.value_ranges.specs.Parts.{AreBetween}
 use Rattle.pointwise_eval.specs.Needs.{IsNeeded}
 
 -- its values
@@ -73,6 +76,22 @@ pub record CanEvaluate (size : Size) (planes : List Plane) (e : Tree) : Type 0 w
   pub values : AreValues size types planes
   pub whole : EachImage (IsWhole size planes) e
 
+-- What is known of images of these types: their planes show values of the types, and in these intervals.
+pub record AreSources (size : Size) (planes : List Plane) (intervals : List Interval) (tys : List Ty) : Type 0 where
+  -- the types are types of values
+  pub types : All IsType tys
+  -- each value is of its image's type
+  pub values : AreValues size tys planes
+  -- each value is in its image's interval
+  pub ranges : AreBetween intervals (all_shown size planes)
+
+-- a pixel of the frame
+pub record IsPixel (size : Size) (x y : ℕ) : Type 0 where
+  -- its column
+  pub across : x < size.width
+  -- its row
+  pub down : y < size.height
+
 -- a step to the point (x, y) that leads nowhere: what is there is 0
 abbrev pub IsNowhere : Size → Edge → (x y : ℤ) → Type 0
 IsNowhere size edge x y = (picture : Picture) → edged size edge picture x y ≡ pos 0
@@ -103,6 +122,28 @@ pub record ShowsNeeded (size : Size) (types : List Ty) (known : List Picture) (u
 -- the plane at a place is the one that was there, or it is gone
 abbrev pub AreSameOrGone : Option Plane → Option Plane → Type 0
 AreSameOrGone old new = (new ≡ old) ⊎ (new ≡ Some Gone)
+
+-- The planes of images that are not needed any more after the first n may be gone.
+pub record DropsSome (until : List ℕ) (n : ℕ) (old new : List Plane) : Type 0 where
+  -- there are as many
+  pub count : length new ≡ length old
+  -- each that is needed is there
+  pub kept : (g : ℕ) → IsNeeded until n g → slice_get new g ≡ slice_get old g
+  -- no other is changed
+  pub each : (g : ℕ) → AreSameOrGone (slice_get old g) (slice_get new g)
+
+-- The plane of one image is gone, where it is not needed any more after the first n.
+pub record DropsOne (image limit n : ℕ) (old new : List Plane) : Type 0 where
+  -- the others stay
+  pub others : (g : ℕ) → g ≢ image → slice_get new g ≡ slice_get old g
+  -- it stays where it is needed
+  pub kept : n < limit → slice_get new image ≡ slice_get old image
+  -- else it may be gone
+  pub here : AreSameOrGone (slice_get old image) (slice_get new image)
+
+-- a sample: a number of at most 16 bits
+abbrev pub IsSample : ℤ → Type 0
+IsSample v = (pos 0 ≤ℤ v) × (v <ℤ pos 65536)
 
 -- a whole plane whose values are samples of an output
 pub record IsOutputPlane (size : Size) (planes : List Plane) (g : ℕ) : Type 0 where

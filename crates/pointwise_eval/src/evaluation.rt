@@ -1,19 +1,17 @@
 // The pictures of all images that the outputs need, one after another.
 
-ghost use Rattle.std.specs.Prelude.{◌≡◌, ◌≢◌, ℕ, Some, slice_get, ◌<◌, ◌≤◌, ◌≤ℤ◌, ◌<ℤ◌, pos, IfOk, IsTrue, length, map, take, unsigned_abs};
+ghost use Rattle.std.specs.Prelude.{◌≡◌, ◌≢◌, ℕ, Some, slice_get, ◌<◌, ◌≤◌, pos, IfOk, IsTrue, length, map, take, unsigned_abs};
 ghost use Rattle.std.specs.List.{All};
 ghost use Rattle.dk_base.specs.declared.TheConstants.{MAX_INLINED_DEPTH};
-ghost use Rattle.dk_base.specs.Types.{IsType};
 ghost use Rattle.dk_base.specs.FrameSizes.{size_of};
 ghost use Rattle.dk_base.specs.Stencils.{IsDistinct};
 ghost use Rattle.pointwise_ir.specs.Trees.{tree_of, depth_of};
 ghost use Rattle.pointwise_ir.specs.Programs.{all_types, types_of};
 ghost use Rattle.dk_base.specs.Frames.{picture_at};
 ghost use Rattle.pointwise_ir.specs.Meaning.{pictures};
-ghost use Rattle.value_ranges.specs.Parts.{AreBetween};
 ghost use Rattle.value_ranges.specs.Images.{AreRangesOf};
-ghost use Rattle.pointwise_eval.specs.Needs.{IsNeeded, image_count, AreNeeds};
-ghost use Rattle.pointwise_eval.specs.Planes.{values_of, all_shown, AreValues, IsWhole, CanEvaluate, IsPlaneOf, AreSameOrGone, ShowsNeeded, IsOutputPlane};
+ghost use Rattle.pointwise_eval.specs.Needs.{AreNeeds, image_count};
+ghost use Rattle.pointwise_eval.specs.Planes.{AreSources, CanEvaluate, DropsOne, DropsSome, IsOutputPlane, IsPlaneOf, IsSample, ShowsNeeded, all_shown, values_of};
 ghost use Rattle.pointwise_eval.specs.Rounds.{AreFrames, round_of, frame_of, output_frames};
 
 use crate::need::{is_needed, needs};
@@ -39,7 +37,8 @@ fn input_plane(samples: &Samples) -> Plane<'_>
 
 // The planes of the inputs.
 fn input_planes<'a>(alloc: Global, frames: &'a [Frame]) -> Result<Vec<Plane<'a>>, OutOfMemory>
-    ensures { IfOk result (λ planes. map values_of planes.items ≡ map (λ f. map pos f.samples) frames.now) }
+    ensures { IfOk result (λ planes. map values_of planes.items
+        ≡ map (λ f. map pos f.samples) frames.now) }
 {
     let mut planes = Vec::new(alloc);
     for frame in frames {
@@ -55,12 +54,13 @@ fn next_plane<'a>(
     body: &Expr,
     wanted: bool,
 ) -> Result<Plane<'a>, OutOfMemory>
-    requires can { IsTrue wanted → CanEvaluate (size_of sources.now.size) sources.now.planes.now (tree_of body.now) }
-    requires types { All IsType (all_types sources.now.inputs.now sources.now.images.now) }
-    requires values { AreValues (size_of sources.now.size) (all_types sources.now.inputs.now sources.now.images.now) sources.now.planes.now }
-    requires ranges { AreBetween sources.now.ranges.now (all_shown (size_of sources.now.size) sources.now.planes.now) }
+    requires can { IsTrue wanted
+        → CanEvaluate (size_of sources.now.size) sources.now.planes.now (tree_of body.now) }
+    requires sources { AreSources (size_of sources.now.size) sources.now.planes.now
+        sources.now.ranges.now (all_types sources.now.inputs.now sources.now.images.now) }
     requires depth { depth_of (tree_of body.now) ≤ MAX_INLINED_DEPTH }
-    ensures { IfOk result (λ p. IsPlaneOf (size_of sources.now.size) sources.now.planes.now (tree_of body.now) wanted p) }
+    ensures { IfOk result (IsPlaneOf (size_of sources.now.size) sources.now.planes.now
+        (tree_of body.now) wanted) }
 {
     if wanted {
         render(alloc, sources, body)
@@ -80,9 +80,7 @@ fn earlier(images: &[Definition], k: usize) -> &[Definition]
 // Lets go of a plane that is needed after `until` images at most, where this many are made.
 fn drop_plane(planes: &mut [Plane<'_>], image: usize, until: usize, made: usize)
     requires { image < length planes.old }
-    ensures others { (g : ℕ) → g ≢ image → slice_get planes.new g ≡ slice_get planes.old g }
-    ensures kept { made < until → slice_get planes.new image ≡ slice_get planes.old image }
-    ensures here { AreSameOrGone (slice_get planes.old image) (slice_get planes.new image) }
+    ensures { DropsOne image until made planes.old planes.new }
 {
     if until <= made {
         planes[image] = Plane::Gone;
@@ -92,9 +90,7 @@ fn drop_plane(planes: &mut [Plane<'_>], image: usize, until: usize, made: usize)
 // Lets go of the planes that are not needed after this many images.
 fn drop_planes(planes: &mut [Plane<'_>], until: &[usize], made: usize)
     requires { length planes.old ≤ length until.now }
-    ensures count { length planes.new ≡ length planes.old }
-    ensures kept { (g : ℕ) → IsNeeded until.now made g → slice_get planes.new g ≡ slice_get planes.old g }
-    ensures each { (g : ℕ) → AreSameOrGone (slice_get planes.old g) (slice_get planes.new g) }
+    ensures { DropsSome until.now made planes.old planes.new }
 {
     for g in 0..planes.len() {
         drop_plane(planes, g, until[g], made);
@@ -104,9 +100,7 @@ fn drop_planes(planes: &mut [Plane<'_>], until: &[usize], made: usize)
 // The same over a vector.
 fn drop_unneeded(planes: &mut Vec<Plane<'_>>, until: &[usize], made: usize)
     requires { length planes.old.items ≤ length until.now }
-    ensures count { length planes.new.items ≡ length planes.old.items }
-    ensures kept { (g : ℕ) → IsNeeded until.now made g → slice_get planes.new.items g ≡ slice_get planes.old.items g }
-    ensures each { (g : ℕ) → AreSameOrGone (slice_get planes.old.items g) (slice_get planes.new.items g) }
+    ensures { DropsSome until.now made planes.old.items planes.new.items }
 {
     drop_planes(planes, until, made);
 }
@@ -124,7 +118,8 @@ fn all_planes<'a>(
     requires count { length ranges.now ≡ image_count ir.now }
     requires ranges { AreRangesOf ir.now ranges.now }
     ensures { IfOk result (λ planes. ShowsNeeded ir.now.size (types_of ir.now)
-        (pictures ir.now (round_of ir.now.size frames.now)) until.now (image_count ir.now) planes.items) }
+        (pictures ir.now (round_of ir.now.size frames.now)) until.now
+        (image_count ir.now) planes.items) }
 {
     ir.law();
     let size = ir.size();
@@ -151,8 +146,7 @@ fn all_planes<'a>(
 
 // An element that is a sample.
 fn sample_of<T: Element>(element: T) -> u16
-    requires least { pos 0 ≤ℤ T.worth element }
-    requires greatest { T.worth element <ℤ pos 65536 }
+    requires { IsSample (T.worth element) }
     ensures { result ≡ unsigned_abs (T.worth element) }
 {
     element.widen() as u16
@@ -160,7 +154,7 @@ fn sample_of<T: Element>(element: T) -> u16
 
 // Elements that are samples.
 fn element_samples<T: Element>(alloc: Global, elements: &[T]) -> Result<Samples, OutOfMemory>
-    requires { All (λ v. (pos 0 ≤ℤ v) × (v <ℤ pos 65536)) (map T.worth elements.now) }
+    requires { All IsSample (map T.worth elements.now) }
     ensures { IfOk result (λ s. s ≡ map unsigned_abs (map T.worth elements.now)) }
 {
     let mut samples = Vec::with_capacity(alloc, elements.len())?;
@@ -172,7 +166,7 @@ fn element_samples<T: Element>(alloc: Global, elements: &[T]) -> Result<Samples,
 
 // Values that are samples.
 fn wide_samples(alloc: Global, values: &[i128]) -> Result<Samples, OutOfMemory>
-    requires { All (λ v. (pos 0 ≤ℤ v) × (v <ℤ pos 65536)) values.now }
+    requires { All IsSample values.now }
     ensures { IfOk result (λ s. s ≡ map unsigned_abs values.now) }
 {
     let mut samples = Vec::new(alloc);
@@ -201,7 +195,7 @@ fn copied_words(alloc: Global, samples: &[u16]) -> Result<Samples, OutOfMemory>
 // The samples of a plane.
 #[tactic(auto, using(crate::proofs::Pixels::samples_back))]
 fn samples_of(alloc: Global, plane: Plane<'_>) -> Result<Samples, OutOfMemory>
-    requires { All (λ v. (pos 0 ≤ℤ v) × (v <ℤ pos 65536)) (values_of plane) }
+    requires { All IsSample (values_of plane) }
     ensures { IfOk result (λ s. s ≡ map unsigned_abs (values_of plane.entry)) }
 {
     match plane {
@@ -221,8 +215,13 @@ fn samples_of(alloc: Global, plane: Plane<'_>) -> Result<Samples, OutOfMemory>
 
 // The frame of values that are samples.
 fn output_frame(alloc: Global, size: FrameSize, plane: Plane<'_>) -> Result<Frame, OutOfMemory>
-    requires { All (λ v. (pos 0 ≤ℤ v) × (v <ℤ pos 65536)) (values_of plane) }
-    ensures { IfOk result (λ f. f ≡ record { width = size.width; height = size.height; samples = map unsigned_abs (values_of plane.entry) }) }
+    requires { All IsSample (values_of plane) }
+    ensures { IfOk result (λ f. f
+        ≡ record {
+          width = size.width;
+          height = size.height;
+          samples = map unsigned_abs (values_of plane.entry);
+        }) }
 {
     let samples = samples_of(alloc, plane)?;
     Ok(Frame {
@@ -250,7 +249,9 @@ fn frames_of_outputs(
 ) -> Result<Vec<Frame>, OutOfMemory>
     requires outputs { All (IsOutputPlane (size_of size) planes.old) outputs.now }
     requires distinct { IsDistinct outputs.now }
-    ensures { IfOk result (λ frames. frames.items ≡ map (λ g. frame_of (size_of size) (picture_at (all_shown (size_of size) planes.old) g)) outputs.now) }
+    ensures { IfOk result (λ frames. frames.items
+        ≡ map (λ g. frame_of (size_of size) (picture_at (all_shown (size_of size) planes.old) g))
+        outputs.now) }
 {
     let mut frames = Vec::new(alloc);
     for output in outputs {
@@ -264,7 +265,8 @@ fn frames_of_outputs(
 /// The pictures of the outputs in order, on one frame for each input in order, which has the size of the frame and samples in the range of the input's type. Memory is taken for the values of each image that an output needs, and given back once no later image reads it.
 pub fn evaluate(alloc: Global, ir: &Program, frames: &[Frame]) -> Result<Vec<Frame>, OutOfMemory>
     requires { AreFrames ir.now frames.now }
-    ensures { IfOk result (λ outs. outs.items ≡ output_frames ir.now (pictures ir.now (round_of ir.now.size frames.now))) }
+    ensures { IfOk result (λ outs. outs.items
+        ≡ output_frames ir.now (pictures ir.now (round_of ir.now.size frames.now))) }
 {
     ir.law();
     let until = needs(alloc, ir)?;

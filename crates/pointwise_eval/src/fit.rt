@@ -1,6 +1,6 @@
 // Whether frames fit the inputs of a program.
 
-ghost use Rattle.std.specs.Prelude.{◌≡◌, ◌<◌, ◌<ℤ◌, pos, IsTrue, length};
+ghost use Rattle.std.specs.Prelude.{◌≡◌, ◌<◌, ◌↔◌, ◌<ℤ◌, pos, IsTrue, length};
 ghost use Rattle.std.specs.List.{All};
 ghost use Rattle.dk_base.specs.FrameSizes.{size_of};
 ghost use Rattle.dk_base.specs.Types.{IsType, above};
@@ -16,8 +16,7 @@ use value_rows::Element;
 // Whether no element is above the range of the type.
 fn elements_fit<T: Element>(elements: &[T], ty: Ty) -> bool
     requires { IsType ty }
-    ensures yes { IsTrue result → All (λ e. T.worth e <ℤ pos (above ty)) elements.now }
-    ensures no { All (λ e. T.worth e <ℤ pos (above ty)) elements.now → IsTrue result }
+    ensures { IsTrue result ↔ All (λ e. T.worth e <ℤ pos (above ty)) elements.now }
 {
     let greatest = ty.greatest();
     for element in elements {
@@ -31,8 +30,7 @@ fn elements_fit<T: Element>(elements: &[T], ty: Ty) -> bool
 // Whether the samples are in the range of the type.
 fn samples_fit(samples: SampleSlice<'_>, ty: Ty) -> bool
     requires { IsType ty }
-    ensures yes { IsTrue result → All (λ s. s < above ty) (samples_of samples.entry) }
-    ensures no { All (λ s. s < above ty) (samples_of samples.entry) → IsTrue result }
+    ensures { IsTrue result ↔ All (λ s. s < above ty) (samples_of samples.entry) }
 {
     match samples {
         SampleSlice::U8(samples) => elements_fit(samples, ty),
@@ -43,8 +41,7 @@ fn samples_fit(samples: SampleSlice<'_>, ty: Ty) -> bool
 // Whether the frame has the size, and samples in the range of the type.
 fn frame_fits(size: FrameSize, ty: Ty, frame: &Frame) -> bool
     requires { IsPort ty }
-    ensures yes { IsTrue result → IsInputFrame (size_of size) ty frame.now }
-    ensures no { IsInputFrame (size_of size) ty frame.now → IsTrue result }
+    ensures { IsTrue result ↔ IsInputFrame (size_of size) ty frame.now }
 {
     if frame.width != size.width {
         return false;
@@ -63,8 +60,7 @@ fn frame_fits(size: FrameSize, ty: Ty, frame: &Frame) -> bool
 fn each_fits(size: FrameSize, inputs: &[Input], frames: &[Frame]) -> bool
     requires ports { All (λ i. IsPort i.ty) inputs.now }
     requires one_each { length frames.now ≡ length inputs.now }
-    ensures yes { IsTrue result → AreInputFrames (size_of size) inputs.now frames.now }
-    ensures no { AreInputFrames (size_of size) inputs.now frames.now → IsTrue result }
+    ensures { IsTrue result ↔ AreInputFrames (size_of size) inputs.now frames.now }
 {
     for k in 0..frames.len() {
         if !frame_fits(size, inputs[k].ty, &frames[k]) {

@@ -1,9 +1,9 @@
 // Until when the outputs need each image.
 
-ghost use Rattle.std.specs.Prelude.{◌≡◌, ◌≢◌, ℕ, ◌+◌, ◌^◌, ◌<◌, ◌≤◌, IfOk, IsTrue, Some, length, map, slice_get};
+ghost use Rattle.std.specs.Prelude.{◌≡◌, ℕ, ◌+◌, ◌^◌, ◌<◌, ◌↔◌, IfOk, IsTrue, Some, length, map, slice_get};
 ghost use Rattle.std.specs.List.{All};
 ghost use Rattle.pointwise_ir.specs.Trees.{Tree, tree_of, EachImage};
-ghost use Rattle.pointwise_eval.specs.Needs.{IsNeeded, image_count, AreNeeds};
+ghost use Rattle.pointwise_eval.specs.Needs.{AreNeeds, IsNeeded, Notes, NotesBodies, NotesReads, image_count};
 
 use dk_base::OutOfMemory;
 use pointwise_ir::{Definition, Expr, Program};
@@ -13,9 +13,7 @@ use std::alloc::Global;
 fn need(until: &mut [usize], image: usize, behind: usize)
     requires there { image < length until.old }
     requires few { behind < 2 ^ 62 }
-    ensures needed { IsNeeded until.new behind image }
-    ensures kept { (n g : ℕ) → IsNeeded until.old n g → IsNeeded until.new n g }
-    ensures others { (g : ℕ) → g ≢ image → slice_get until.new g ≡ slice_get until.old g }
+    ensures { Notes until.old until.new behind image }
 {
     if until[image] <= behind {
         until[image] = behind + 1;
@@ -26,9 +24,7 @@ fn need(until: &mut [usize], image: usize, behind: usize)
 fn mark(e: &Expr, until: &mut [usize], behind: usize)
     requires there { EachImage (λ g. g < length until.old) (tree_of e.now) }
     requires few { behind < 2 ^ 62 }
-    ensures reads { EachImage (IsNeeded until.new behind) (tree_of e.now) }
-    ensures kept { (n g : ℕ) → IsNeeded until.old n g → IsNeeded until.new n g }
-    ensures others { (n : ℕ) → EachImage (λ g. g < n) (tree_of e.now) → (g : ℕ) → n ≤ g → slice_get until.new g ≡ slice_get until.old g }
+    ensures { NotesReads until.old until.new behind (tree_of e.now) }
 {
     match e {
         Expr::Constant(..) => {}
@@ -64,8 +60,7 @@ fn mark_outputs(outputs: &[u32], until: &mut [usize], behind: usize)
 pub fn is_needed(until: &[usize], number: usize) -> bool
     requires there { number < length until.now }
     requires few { number < 2 ^ 62 }
-    ensures yes { IsTrue result → IsNeeded until.now (number + 1) number }
-    ensures no { IsNeeded until.now (number + 1) number → IsTrue result }
+    ensures { IsTrue result ↔ IsNeeded until.now (number + 1) number }
 {
     until[number] > number + 1
 }
@@ -74,10 +69,10 @@ pub fn is_needed(until: &[usize], number: usize) -> bool
 fn mark_reads(inputs: usize, images: &[Definition], until: &mut [usize])
     requires long { length until.old ≡ inputs + length images.now }
     requires few { inputs + length images.now < 2 ^ 62 }
-    requires earlier { (k : ℕ) (e : Tree) → slice_get (map (λ d. tree_of d.body) images.now) k ≡ Some e → EachImage (λ g. g < inputs + k) e }
-    ensures kept { (n g : ℕ) → IsNeeded until.old n g → IsNeeded until.new n g }
-    ensures closed { (k : ℕ) (e : Tree) → slice_get (map (λ d. tree_of d.body) images.now) k ≡ Some e → IsNeeded until.new (inputs + k + 1) (inputs + k)
-        → EachImage (IsNeeded until.new (inputs + k)) e }
+    requires earlier { (k : ℕ) (e : Tree)
+        → slice_get (map (λ d. tree_of d.body) images.now) k ≡ Some e
+        → EachImage (λ g. g < inputs + k) e }
+    ensures { NotesBodies until.old until.new inputs (map (λ d. tree_of d.body) images.now) }
 {
     let mut k = images.len();
     while k > 0 {

@@ -17,7 +17,8 @@ pub struct Point {
 
 // The coordinate that is `by` further, where it is below the limit.
 pub fn moved(at: u32, by: i32, limit: u32) -> Option<u32>
-    ensures { MatchOption result (IsFalse (is_below (pos at +ℤ by) limit)) (λ n. (pos n ≡ pos at +ℤ by) × (n < limit)) }
+    ensures { MatchOption result (IsFalse (is_below (pos at +ℤ by) limit))
+        (λ n. (pos n ≡ pos at +ℤ by) × (n < limit)) }
 {
     let there = i64::from(at) + i64::from(by);
     if there >= 0 && there < i64::from(limit) {
@@ -46,7 +47,8 @@ pub fn brought(at: u32, by: i32, limit: u32) -> u32
 
 // The pixel to which a step leads, or None where it leads out of the frame.
 pub fn step(size: FrameSize, edge: Edge, from: Point, dx: i32, dy: i32) -> Option<Point>
-    ensures { MatchOption result (IsNowhere (size_of size) edge (pos from.x +ℤ dx) (pos from.y +ℤ dy))
+    ensures { MatchOption result
+        (IsNowhere (size_of size) edge (pos from.x +ℤ dx) (pos from.y +ℤ dy))
         (λ p. LeadsTo (size_of size) edge (pos from.x +ℤ dx) (pos from.y +ℤ dy) p.x p.y) }
 {
     match edge {

@@ -1,19 +1,15 @@
 // The values of an expression at all pixels, a row at a time.
 
-ghost use Rattle.std.specs.Prelude.{◌≡◌, ◌+◌, ◌*◌, ◌<◌, ◌≤◌, IfOk, IsTrue, length, map, pos};
-ghost use Rattle.std.specs.List.{All};
+ghost use Rattle.std.specs.Prelude.{◌≡◌, ◌+◌, ◌*◌, ◌<◌, ◌≤◌, IfOk, length, map, pos};
 ghost use Rattle.dk_base.specs.declared.TheConstants.{MAX_INLINED_DEPTH};
-ghost use Rattle.dk_base.specs.Types.{IsType};
 ghost use Rattle.value_rows.specs.Rows.{IsRow};
 ghost use Rattle.dk_base.specs.FrameSizes.{size_of};
 ghost use Rattle.pointwise_ir.specs.Trees.{tree_of, depth_of};
 ghost use Rattle.pointwise_ir.specs.Programs.{all_types};
 ghost use Rattle.pointwise_ir.specs.Meaning.{value};
-ghost use Rattle.value_ranges.specs.Parts.{AreBetween};
-ghost use Rattle.pointwise_eval.specs.Narrow.{AreAllIn};
-ghost use Rattle.pointwise_eval.specs.Planes.{values_of, all_shown, AreValues, ArePixelsOf, CanEvaluate};
+ghost use Rattle.pointwise_eval.specs.Planes.{values_of, all_shown, ArePixelsOf, AreSources, CanEvaluate};
 ghost use Rattle.pointwise_eval.specs.ElementKinds.{HoldsAll};
-ghost use Rattle.pointwise_eval.specs.Lanes.{lane_type, FitsLane};
+ghost use Rattle.pointwise_eval.specs.Lanes.{FitsRows, lane_type};
 
 use crate::lane::{Lane, lane_of};
 use crate::narrow::{narrow_type, reads_rows};
@@ -54,12 +50,14 @@ fn element_row<L: Element, T: Element>(
     to: &mut [T],
     scratch: &mut [L],
 )
-    requires lane { FitsLane L.ty (size_of size) planes.now (tree_of e.now) }
-    requires typed { AreAllIn (size_of size) (all_shown (size_of size) planes.now) (tree_of e.now) T.ty }
+    requires fit { FitsRows L.ty T.ty (size_of size) planes.now (tree_of e.now) }
     requires down { y < size.height }
     requires elements { length to.old ≡ size.width }
-    requires room { size.width + depth_of (tree_of e.now) * (size.width + size.width) ≤ length scratch.old }
-    ensures { IsRow (size_of size) (value (size_of size) (all_shown (size_of size) planes.now) (tree_of e.now)) (pos y) (map T.worth to.new) }
+    requires room { size.width + depth_of (tree_of e.now) * (size.width + size.width)
+        ≤ length scratch.old }
+    ensures { IsRow (size_of size)
+        (value (size_of size) (all_shown (size_of size) planes.now) (tree_of e.now))
+        (pos y) (map T.worth to.new) }
 {
     let (row, rest) = scratch.split_at_mut(to.len());
     value_row(size, planes, e, y, row, rest);
@@ -75,11 +73,12 @@ fn elements_of_rows<L: Element, T: Element>(
     part: &mut [T],
     scratch: &mut [L],
 ) -> Result<Vec<T>, OutOfMemory>
-    requires lane { FitsLane L.ty (size_of size) planes.now (tree_of e.now) }
-    requires typed { AreAllIn (size_of size) (all_shown (size_of size) planes.now) (tree_of e.now) T.ty }
+    requires fit { FitsRows L.ty T.ty (size_of size) planes.now (tree_of e.now) }
     requires part { length part.old ≡ size.width }
-    requires room { size.width + depth_of (tree_of e.now) * (size.width + size.width) ≤ length scratch.old }
-    ensures { IfOk result (λ v. ArePixelsOf (size_of size) planes.now (tree_of e.now) (map T.worth v.items)) }
+    requires room { size.width + depth_of (tree_of e.now) * (size.width + size.width)
+        ≤ length scratch.old }
+    ensures { IfOk result
+        (λ v. ArePixelsOf (size_of size) planes.now (tree_of e.now) (map T.worth v.items)) }
 {
     let mut elements = Vec::with_capacity(alloc, size.width as usize * size.height as usize)?;
     for y in 0..size.height {
@@ -96,10 +95,9 @@ fn render_elements<L: Element, T: Element>(
     planes: &[Plane<'_>],
     e: &Expr,
 ) -> Result<Vec<T>, OutOfMemory>
-    requires lane { FitsLane L.ty (size_of size) planes.now (tree_of e.now) }
-    requires typed { AreAllIn (size_of size) (all_shown (size_of size) planes.now) (tree_of e.now) T.ty }
-    requires depth { depth_of (tree_of e.now) ≤ MAX_INLINED_DEPTH }
-    ensures { IfOk result (λ v. ArePixelsOf (size_of size) planes.now (tree_of e.now) (map T.worth v.items)) }
+    requires { FitsRows L.ty T.ty (size_of size) planes.now (tree_of e.now) }
+    ensures { IfOk result
+        (λ v. ArePixelsOf (size_of size) planes.now (tree_of e.now) (map T.worth v.items)) }
 {
     let width = size.width as usize;
     let mut part = vec![in alloc; T::default(); width]?;
@@ -149,10 +147,9 @@ fn render_rows<'a, L: Element>(
     e: &Expr,
     ty: Ty,
 ) -> Result<Plane<'a>, OutOfMemory>
-    requires lane { FitsLane L.ty (size_of size) planes.now (tree_of e.now) }
-    requires typed { AreAllIn (size_of size) (all_shown (size_of size) planes.now) (tree_of e.now) ty }
-    requires depth { depth_of (tree_of e.now) ≤ MAX_INLINED_DEPTH }
-    ensures { IfOk result (λ p. ArePixelsOf (size_of size) planes.now (tree_of e.now) (values_of p)) }
+    requires { FitsRows L.ty ty (size_of size) planes.now (tree_of e.now) }
+    ensures { IfOk result
+        (λ p. ArePixelsOf (size_of size) planes.now (tree_of e.now) (values_of p)) }
 {
     let _type = L::element_type();
     match kind_of(ty) {
@@ -189,10 +186,9 @@ fn render_lane<'a>(
     ty: Ty,
     lane: Lane,
 ) -> Result<Plane<'a>, OutOfMemory>
-    requires lane { FitsLane (lane_type lane) (size_of size) planes.now (tree_of e.now) }
-    requires typed { AreAllIn (size_of size) (all_shown (size_of size) planes.now) (tree_of e.now) ty }
-    requires depth { depth_of (tree_of e.now) ≤ MAX_INLINED_DEPTH }
-    ensures { IfOk result (λ p. ArePixelsOf (size_of size) planes.now (tree_of e.now) (values_of p)) }
+    requires { FitsRows (lane_type lane) ty (size_of size) planes.now (tree_of e.now) }
+    ensures { IfOk result
+        (λ p. ArePixelsOf (size_of size) planes.now (tree_of e.now) (values_of p)) }
 {
     match lane {
         Lane::Bits16 => render_rows::<i16>(alloc, size, planes, e, ty),
@@ -214,11 +210,11 @@ pub struct Sources<'a> {
 // The values of an expression over these images at all pixels: by rows where all its parts have values of 64 bits and it reads such planes, in the lane of fewest bits that holds them; else each by itself.
 pub fn render<'a>(alloc: Global, sources: &Sources<'_>, e: &Expr) -> Result<Plane<'a>, OutOfMemory>
     requires can { CanEvaluate (size_of sources.now.size) sources.now.planes.now (tree_of e.now) }
-    requires types { All IsType (all_types sources.now.inputs.now sources.now.images.now) }
-    requires values { AreValues (size_of sources.now.size) (all_types sources.now.inputs.now sources.now.images.now) sources.now.planes.now }
-    requires ranges { AreBetween sources.now.ranges.now (all_shown (size_of sources.now.size) sources.now.planes.now) }
+    requires sources { AreSources (size_of sources.now.size) sources.now.planes.now
+        sources.now.ranges.now (all_types sources.now.inputs.now sources.now.images.now) }
     requires depth { depth_of (tree_of e.now) ≤ MAX_INLINED_DEPTH }
-    ensures { IfOk result (λ p. ArePixelsOf (size_of sources.now.size) sources.now.planes.now (tree_of e.now) (values_of p)) }
+    ensures { IfOk result (λ p. ArePixelsOf (size_of sources.now.size) sources.now.planes.now
+        (tree_of e.now) (values_of p)) }
 {
     let size = sources.size;
     let planes = sources.planes;

@@ -5,7 +5,7 @@ ghost use Rattle.dk_base.specs.FrameSizes.{size_of};
 ghost use Rattle.pointwise_ir.specs.Trees.{tree_of};
 ghost use Rattle.dk_base.specs.Frames.{picture_at};
 ghost use Rattle.pointwise_ir.specs.Meaning.{value};
-ghost use Rattle.pointwise_eval.specs.Planes.{values_of, all_shown, IsWhole, CanEvaluate, ArePixelsOf};
+ghost use Rattle.pointwise_eval.specs.Planes.{values_of, all_shown, IsPixel, IsWhole, CanEvaluate, ArePixelsOf};
 
 use crate::plane::Plane;
 use crate::point::{Point, step};
@@ -45,9 +45,9 @@ fn value_of(plane: &Plane<'_>, place: usize) -> i128
 // The value of an image at a pixel.
 fn sample(size: FrameSize, planes: &[Plane<'_>], image: u32, at: Point) -> i128
     requires whole { IsWhole (size_of size) planes.now image }
-    requires across { at.x < size.width }
-    requires down { at.y < size.height }
-    ensures { result ≡ picture_at (all_shown (size_of size) planes.now) image (pos at.x) (pos at.y) }
+    requires pixel { IsPixel (size_of size) at.x at.y }
+    ensures { result
+        ≡ picture_at (all_shown (size_of size) planes.now) image (pos at.x) (pos at.y) }
 {
     let place = at.y as usize * size.width as usize + at.x as usize;
     value_of(&planes[image as usize], place)
@@ -56,9 +56,9 @@ fn sample(size: FrameSize, planes: &[Plane<'_>], image: u32, at: Point) -> i128
 // The value of an expression at a pixel.
 pub fn value_at(size: FrameSize, planes: &[Plane<'_>], e: &Expr, at: Point) -> i128
     requires can { CanEvaluate (size_of size) planes.now (tree_of e.now) }
-    requires across { at.x < size.width }
-    requires down { at.y < size.height }
-    ensures { result ≡ value (size_of size) (all_shown (size_of size) planes.now) (tree_of e.now) (pos at.x) (pos at.y) }
+    requires pixel { IsPixel (size_of size) at.x at.y }
+    ensures { result ≡ value (size_of size) (all_shown (size_of size) planes.now)
+        (tree_of e.now) (pos at.x) (pos at.y) }
 {
     match e {
         Expr::Constant(value, _) => *value,
@@ -98,7 +98,8 @@ pub fn render_points<'a>(
     e: &Expr,
 ) -> Result<Plane<'a>, OutOfMemory>
     requires can { CanEvaluate (size_of size) planes.now (tree_of e.now) }
-    ensures { IfOk result (λ p. ArePixelsOf (size_of size) planes.now (tree_of e.now) (values_of p)) }
+    ensures { IfOk result
+        (λ p. ArePixelsOf (size_of size) planes.now (tree_of e.now) (values_of p)) }
 {
     let mut values = Vec::new(alloc);
     for y in 0..size.height {

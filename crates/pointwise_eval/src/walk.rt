@@ -21,7 +21,8 @@ use value_rows::{
 // The row to which a step leads, or None where it leads out of the frame.
 fn row_at(edge: Edge, y: u32, dy: i32, height: u32) -> Option<u32>
     requires { 0 < height }
-    ensures { MatchOption result (LeadsNowhere edge (pos y +ℤ dy) height) (LeadsToRow edge (pos y +ℤ dy) height) }
+    ensures { MatchOption result (LeadsNowhere edge (pos y +ℤ dy) height)
+        (LeadsToRow edge (pos y +ℤ dy) height) }
 {
     match edge {
         Edge::Zero => {
@@ -48,7 +49,8 @@ fn narrow(value: i128) -> i64
 fn elements_part<T: Element>(elements: &[T], start: usize, count: usize) -> &[T]
     requires { start + count ≤ length (map T.worth elements.now) }
     ensures whole { length (map T.worth result.now) ≡ count }
-    ensures values { (k : ℕ) → k < count → entry (map T.worth result.now) k ≡ entry (map T.worth elements.now) (start + k) }
+    ensures values { (k : ℕ) → k < count
+        → entry (map T.worth result.now) k ≡ entry (map T.worth elements.now) (start + k) }
 {
     elements.split_at(start).1.split_at(count).0
 }
@@ -64,7 +66,8 @@ fn read_elements<T: Element, L: Element>(
 )
     requires read { IsReadable L.ty (size_of size) (map T.worth elements.now) y }
     requires row { length to.old ≡ size.width }
-    ensures { ReadsRow (size_of size) edge (shown (size_of size) (map T.worth elements.now)) y by (map L.worth to.new) }
+    ensures { ReadsRow (size_of size) edge (shown (size_of size) (map T.worth elements.now))
+        y by (map L.worth to.new) }
 {
     let width = size.width as usize;
     let row = elements_part(elements, y as usize * width, width);
@@ -83,7 +86,8 @@ fn read_plane<L: Element>(
     requires read { IsReadable L.ty (size_of size) (values_of plane.now) y }
     requires rows { IsByRows plane.now }
     requires row { length to.old ≡ size.width }
-    ensures { ReadsRow (size_of size) edge (shown (size_of size) (values_of plane.now)) y by (map L.worth to.new) }
+    ensures { ReadsRow (size_of size) edge (shown (size_of size) (values_of plane.now))
+        y by (map L.worth to.new) }
 {
     match plane {
         Plane::Input8(samples) => read_elements(size, edge, by, *samples, y, to),
@@ -138,7 +142,9 @@ pub fn value_row<L: Element>(
     requires down { y < size.height }
     requires row { length to.old ≡ size.width }
     requires room { depth_of (tree_of e.now) * (size.width + size.width) ≤ length scratch.old }
-    ensures { IsRow (size_of size) (value (size_of size) (all_shown (size_of size) planes.now) (tree_of e.now)) (pos y) (map L.worth to.new) }
+    ensures { IsRow (size_of size)
+        (value (size_of size) (all_shown (size_of size) planes.now) (tree_of e.now))
+        (pos y) (map L.worth to.new) }
 {
     let width = to.len();
     match e {

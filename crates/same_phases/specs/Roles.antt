@@ -49,6 +49,29 @@ Plays phases old new Frame h = IsFrameTest phases old new h
 abbrev pub ArePlayed : (phases : ℕ) → (old new : Typing) → List Role → Type 0
 ArePlayed phases old new roles = (h : ℕ) (role : Role) → slice_get roles h ≡ Some role → Plays phases old new role h
 
+-- Roles by which images of a split program are compared.
+pub record HaveRoles (phases : ℕ) (old new : Typing) (table : List Role) : Type 0 where
+  -- the new program's frame and inputs are those of phases
+  pub split : IsSplit phases old new
+  -- each image of the table has its role
+  pub roles : ArePlayed phases old new table
+
+-- One of the phases of a split program.
+pub record IsOnePhase (phases p : ℕ) (old new : Typing) : Type 0 where
+  -- the new program's frame and inputs are those of phases
+  pub split : IsSplit phases old new
+  -- it is one of them
+  pub below : p < phases
+
+-- Roles by which images of a split program are compared at one of the phases.
+pub record HaveRolesAt (phases p : ℕ) (old new : Typing) (table : List Role) : Type 0 where
+  -- the new program's frame and inputs are those of phases
+  pub split : IsSplit phases old new
+  -- it is one of them
+  pub below : p < phases
+  -- each image of the table has its role
+  pub roles : ArePlayed phases old new table
+
 -- at each point of the new frame, the expression b of the new program has the value that the expression a of the old one has at the point of phase p
 abbrev pub HasPhase : (phases : ℕ) → (old new : Typing) → (p : ℕ) → (a b : Typed) → Type 0
 HasPhase phases old new p a b = (round : List Picture) → HasOneEach old round → (x y : ℤ) → IsTrue (in_frame new.size x y) →
@@ -76,6 +99,13 @@ IsBrought r = (size : Size) (known : List Picture) (x y : ℤ) → IsTrue (in_fr
 -- a read that is 0 where its point is outside the frame
 abbrev pub IsUnclamped : TypedRead → Type 0
 IsUnclamped r = r.clamped ≡ false
+
+-- an unclamped read in its own row
+pub record IsInRow (r : TypedRead) : Type 0 where
+  -- it is 0 where its point is outside the frame
+  pub unclamped : IsUnclamped r
+  -- its point is in the row
+  pub row : r.dy ≡ pos 0
 
 -- A read by q columns of phase r, in a body of the new program, is at the column of a read by dx columns in the body of phase p.
 abbrev pub IsMovedColumn : (phases r : ℕ) → (q : ℤ) → (p : ℕ) → (dx : ℤ) → Type 0

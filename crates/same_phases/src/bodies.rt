@@ -1,8 +1,8 @@
 // Whether an expression of the new program has the values of one of the old program at a phase.
 
-ghost use Rattle.std.specs.Prelude.{◌≡◌, ◌<◌, IsTrue, IfSome};
+ghost use Rattle.std.specs.Prelude.{IsTrue, IfSome};
 ghost use Rattle.dk_types.specs.Typed.{typing_of, typed_of};
-ghost use Rattle.same_phases.specs.Roles.{IsSplit, ArePlayed, HasPhase, IsBodyOf};
+ghost use Rattle.same_phases.specs.Roles.{HasPhase, HaveRolesAt, IsBodyOf};
 
 use crate::operands::{
     binary_operands, converted_operand, is_number, read_of, scaled_operand, select_operands,
@@ -37,10 +37,10 @@ pub fn has_phase(
     a: &TypedExpr,
     b: &TypedExpr,
 ) -> bool
-    requires split { IsSplit at.phases (typing_of old.now) (typing_of new.now) }
-    requires below { at.phase < at.phases }
-    requires roles { ArePlayed at.phases (typing_of old.now) (typing_of new.now) roles.now }
-    ensures { IsTrue result → HasPhase at.phases (typing_of old.now) (typing_of new.now) at.phase (typed_of a.now) (typed_of b.now) }
+    requires { HaveRolesAt at.phases at.phase (typing_of old.now) (typing_of new.now) roles.now }
+    ensures { IsTrue result
+        → HasPhase at.phases (typing_of old.now) (typing_of new.now) at.phase
+        (typed_of a.now) (typed_of b.now) }
 {
     match &a.node {
         TypedNode::Number(value) => is_number(b, *value),

@@ -1,8 +1,8 @@
 // Images of the new program that are columns, or the test of the frame.
 
-ghost use Rattle.std.specs.Prelude.{◌≡◌, ◌≤◌, ◌<◌, ◌+ℤ◌, ◌*ℤ◌, pos, IsTrue, IfSome};
+ghost use Rattle.std.specs.Prelude.{◌<◌, IsTrue, IfSome};
 ghost use Rattle.dk_types.specs.Typed.{typing_of, typed_of};
-ghost use Rattle.same_phases.specs.Roles.{IsSplit, ArePlayed, IsUnclamped, IsBrought, IsNearer, IsChoice, IsOfRow, IsFrameTest, IsPhase, IsColumnOf};
+ghost use Rattle.same_phases.specs.Roles.{ArePlayed, HaveRoles, IsChoice, IsColumnOf, IsFrameTest, IsInRow, IsNearer, IsOfRow, IsPhase};
 
 use crate::operands::{read_of, select_operands};
 use crate::reads::{column_at, is_brought};
@@ -11,8 +11,7 @@ use dk_types::{TypedExpr, TypedProgram, TypedRead};
 
 // Whether the read is unclamped and in its own row.
 fn is_in_row(read: TypedRead) -> bool
-    ensures unclamped { IsTrue result → IsUnclamped read }
-    ensures row { IsTrue result → read.dy ≡ pos 0 }
+    ensures { IsTrue result → IsInRow read }
 {
     if read.clamped {
         return false;
@@ -100,7 +99,8 @@ fn phase_of(
     image: u32,
 ) -> Option<(u32, u32)>
     requires roles { ArePlayed phases (typing_of old.now) (typing_of new.now) roles.now }
-    ensures { IfSome result (λ f. IsPhase phases (typing_of old.now) (typing_of new.now) f.0 f.1 image) }
+    ensures { IfSome result
+        (λ f. IsPhase phases (typing_of old.now) (typing_of new.now) f.0 f.1 image) }
 {
     match role_of(roles, image) {
         Some(Role::Phase(of, phase)) => Some((of, phase)),
@@ -118,9 +118,9 @@ pub fn column_role(
     phases: u32,
     e: &TypedExpr,
 ) -> Option<Role>
-    requires split { IsSplit phases (typing_of old.now) (typing_of new.now) }
-    requires roles { ArePlayed phases (typing_of old.now) (typing_of new.now) roles.now }
-    ensures { IfSome result (λ role. IsColumnOf phases (typing_of old.now) (typing_of new.now) role (typed_of e.now)) }
+    requires { HaveRoles phases (typing_of old.now) (typing_of new.now) roles.now }
+    ensures { IfSome result
+        (λ role. IsColumnOf phases (typing_of old.now) (typing_of new.now) role (typed_of e.now)) }
 {
     let choice = choice_of(e)?;
     if !is_of_row(choice) {

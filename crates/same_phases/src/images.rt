@@ -1,8 +1,8 @@
 // The role of each image of the new program.
 
-ghost use Rattle.std.specs.Prelude.{◌≡◌, ◌≤◌, ◌<◌, ◌*◌, length, IsTrue, IfOk, IfSome};
-ghost use Rattle.dk_types.specs.Typed.{typing_of, typed_of};
-ghost use Rattle.same_phases.specs.Roles.{IsSplit, Plays, ArePlayed, IsPhase, IsBodyOf};
+ghost use Rattle.std.specs.Prelude.{◌≡◌, ◌≤◌, ◌<◌, length, IsTrue, IfOk, IfSome};
+ghost use Rattle.dk_types.specs.Typed.{typing_of};
+ghost use Rattle.same_phases.specs.Roles.{ArePlayed, HaveRoles, HaveRolesAt, IsPhase, IsSplit, Plays};
 
 use crate::bodies::{body_of, has_phase};
 use crate::columns::column_role;
@@ -21,10 +21,9 @@ fn is_phase(
     g: u32,
     h: u32,
 ) -> bool
-    requires split { IsSplit at.phases (typing_of old.now) (typing_of new.now) }
-    requires below { at.phase < at.phases }
-    requires roles { ArePlayed at.phases (typing_of old.now) (typing_of new.now) roles.now }
-    ensures { IsTrue result → IsPhase at.phases (typing_of old.now) (typing_of new.now) g at.phase h }
+    requires { HaveRolesAt at.phases at.phase (typing_of old.now) (typing_of new.now) roles.now }
+    ensures { IsTrue result
+        → IsPhase at.phases (typing_of old.now) (typing_of new.now) g at.phase h }
 {
     old.law();
     new.law();
@@ -45,8 +44,7 @@ fn column_of(
     phases: u32,
     h: u32,
 ) -> Option<Role>
-    requires split { IsSplit phases (typing_of old.now) (typing_of new.now) }
-    requires roles { ArePlayed phases (typing_of old.now) (typing_of new.now) roles.now }
+    requires { HaveRoles phases (typing_of old.now) (typing_of new.now) roles.now }
     ensures { IfSome result (λ role. Plays phases (typing_of old.now) (typing_of new.now) role h) }
 {
     new.law();
@@ -111,9 +109,9 @@ fn phase_count(roles: &[Role]) -> u32 {
 
 // The role of the image after those of the table.
 fn next_role(old: &TypedProgram, new: &TypedProgram, roles: &[Role], phases: u32) -> Option<Role>
-    requires split { IsSplit phases (typing_of old.now) (typing_of new.now) }
-    requires roles { ArePlayed phases (typing_of old.now) (typing_of new.now) roles.now }
-    ensures { IfSome result (λ role. Plays phases (typing_of old.now) (typing_of new.now) role (length roles.now)) }
+    requires { HaveRoles phases (typing_of old.now) (typing_of new.now) roles.now }
+    ensures { IfSome result
+        (λ role. Plays phases (typing_of old.now) (typing_of new.now) role (length roles.now)) }
 {
     let h = next_image(roles)?;
     if let Some(column) = column_of(old, new, roles, phases, h) {
@@ -140,7 +138,8 @@ fn input_roles(
     phases: u32,
 ) -> Result<Vec<Role>, OutOfMemory>
     requires split { IsSplit phases (typing_of old.now) (typing_of new.now) }
-    ensures { IfOk result (λ roles. ArePlayed phases (typing_of old.now) (typing_of new.now) roles.items) }
+    ensures { IfOk result
+        (λ roles. ArePlayed phases (typing_of old.now) (typing_of new.now) roles.items) }
 {
     old.law();
     new.law();
@@ -160,7 +159,8 @@ pub fn all_roles(
     phases: u32,
 ) -> Result<Option<Vec<Role>>, OutOfMemory>
     requires split { IsSplit phases (typing_of old.now) (typing_of new.now) }
-    ensures { IfOk result (λ found. IfSome found (λ roles. ArePlayed phases (typing_of old.now) (typing_of new.now) roles.items)) }
+    ensures { IfOk result (λ found. IfSome found
+        (λ roles. ArePlayed phases (typing_of old.now) (typing_of new.now) roles.items)) }
 {
     let mut roles = input_roles(alloc, old, new, phases)?;
     for _ in 0..new.definitions().len() {

@@ -35,7 +35,8 @@ pub fn unary_operand(e: &TypedExpr, op: Unary) -> Option<&TypedExpr>
 }
 
 pub fn binary_operands(e: &TypedExpr, op: Binary) -> Option<(&TypedExpr, &TypedExpr)>
-    ensures { IfSome result (λ p. typed_of e.now ≡ double e.now.ty op (typed_of p.0.now) (typed_of p.1.now)) }
+    ensures { IfSome result (λ p. typed_of e.now
+        ≡ double e.now.ty op (typed_of p.0.now) (typed_of p.1.now)) }
 {
     match &e.node {
         TypedNode::Binary(its, left, right) => {
@@ -80,7 +81,8 @@ pub fn converted_operand(e: &TypedExpr, how: Conversion, ty: Ty) -> Option<&Type
 }
 
 pub fn select_operands(e: &TypedExpr) -> Option<(&TypedExpr, &TypedExpr, &TypedExpr)>
-    ensures { IfSome result (λ p. typed_of e.now ≡ chosen e.now.ty (typed_of p.0.now) (typed_of p.1.now) (typed_of p.2.now)) }
+    ensures { IfSome result (λ p. typed_of e.now
+        ≡ chosen e.now.ty (typed_of p.0.now) (typed_of p.1.now) (typed_of p.2.now)) }
 {
     match &e.node {
         TypedNode::Select(condition, left, right) => Some((condition, left, right)),

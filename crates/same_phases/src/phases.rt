@@ -1,9 +1,9 @@
 // The check of two programs.
 
-ghost use Rattle.std.specs.Prelude.{◌≡◌, ◌≤◌, ◌<◌, ◌+◌, ◌*◌, ◌/◌, ◌%◌, ℕ, length, slice_get, slice_index, Some, IsTrue, IfOk, IfSome};
+ghost use Rattle.std.specs.Prelude.{◌≡◌, ◌≤◌, ◌<◌, ◌*◌, ◌/◌, ◌%◌, ℕ, length, slice_get, Some, IsTrue, IfOk, IfSome};
 ghost use Rattle.dk_types.specs.Typed.{typing_of, definition_of, image_type as image_type_of, input_types, types_of};
 ghost use Rattle.same_phases.specs.Phases.{SplitPictures};
-ghost use Rattle.same_phases.specs.Roles.{IsSplit, ArePlayed, IsOutputPhase};
+ghost use Rattle.same_phases.specs.Roles.{IsOutputPhase, IsSplit};
 
 use crate::images::all_roles;
 use crate::role::{Role, role_of};
@@ -32,7 +32,8 @@ fn is_split(phases: u32, old: &TypedProgram, new: &TypedProgram) -> bool
 fn has_input_type(old: &[TypedInput], k: usize, new: &[TypedInput], j: usize) -> bool
     requires old { k < length old.now }
     requires new { j < length new.now }
-    ensures { IsTrue result → slice_get (input_types new.now) j ≡ slice_get (input_types old.now) k }
+    ensures { IsTrue result → slice_get (input_types new.now) j
+        ≡ slice_get (input_types old.now) k }
 {
     new[j].ty == old[k].ty
 }
@@ -41,7 +42,8 @@ fn has_input_type(old: &[TypedInput], k: usize, new: &[TypedInput], j: usize) ->
 fn have_input_types(phases: usize, old: &[TypedInput], new: &[TypedInput]) -> bool
     requires some { 2 ≤ phases }
     requires count { length new.now ≡ phases * length old.now }
-    ensures { IsTrue result → (j : ℕ) → j < length new.now → slice_get (input_types new.now) j ≡ slice_get (input_types old.now) (j / phases) }
+    ensures { IsTrue result → (j : ℕ) → j < length new.now → slice_get (input_types new.now) j
+        ≡ slice_get (input_types old.now) (j / phases) }
 {
     for j in 0..new.len() {
         if !has_input_type(old, j / phases, new, j) {
@@ -81,7 +83,8 @@ fn type_of(program: &TypedProgram, image: u32) -> Option<Ty>
 
 // Whether two images are there and have one type.
 fn have_same_type(old: &TypedProgram, g: u32, new: &TypedProgram, h: u32) -> bool
-    ensures { IsTrue result → slice_get (types_of (typing_of new.now)) h ≡ slice_get (types_of (typing_of old.now)) g }
+    ensures { IsTrue result → slice_get (types_of (typing_of new.now)) h
+        ≡ slice_get (types_of (typing_of old.now)) g }
 {
     match type_of(old, g) {
         Some(one) => match type_of(new, h) {
@@ -120,7 +123,8 @@ fn is_output_phase(
     requires some { 2 ≤ phases }
     requires there { j < length new.now.outputs }
     requires count { length new.now.outputs ≡ phases * length old.now.outputs }
-    ensures { IsTrue result → IsOutputPhase phases (typing_of old.now) (typing_of new.now) roles.now j }
+    ensures { IsTrue result
+        → IsOutputPhase phases (typing_of old.now) (typing_of new.now) roles.now j }
 {
     let image = old.outputs()[j / phases];
     let other = new.outputs()[j];
@@ -134,7 +138,8 @@ fn is_output_phase(
 fn are_output_phases(phases: usize, old: &TypedProgram, new: &TypedProgram, roles: &[Role]) -> bool
     requires some { 2 ≤ phases }
     requires count { length new.now.outputs ≡ phases * length old.now.outputs }
-    ensures { IsTrue result → (j : ℕ) → j < length new.now.outputs → IsOutputPhase phases (typing_of old.now) (typing_of new.now) roles.now j }
+    ensures { IsTrue result → (j : ℕ) → j < length new.now.outputs
+        → IsOutputPhase phases (typing_of old.now) (typing_of new.now) roles.now j }
 {
     for j in 0..new.outputs().len() {
         if !is_output_phase(phases, old, new, roles, j) {
@@ -155,7 +160,8 @@ pub fn have_phases(
 ) -> Result<bool, OutOfMemory>
     requires some { 2 ≤ phases }
     requires most { phases ≤ 8 }
-    ensures { IfOk result (λ same. IsTrue same → SplitPictures phases (typing_of old.now) (typing_of new.now)) }
+    ensures { IfOk result (λ same. IsTrue same
+        → SplitPictures phases (typing_of old.now) (typing_of new.now)) }
 {
     if !is_split(phases, old, new) {
         return Ok(false);

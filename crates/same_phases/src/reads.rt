@@ -2,7 +2,7 @@
 
 ghost use Rattle.std.specs.Prelude.{◌≡◌, ◌≤◌, ◌<◌, ◌+ℤ◌, ◌*ℤ◌, pos, IsTrue};
 ghost use Rattle.dk_types.specs.Typed.{typing_of};
-ghost use Rattle.same_phases.specs.Roles.{IsSplit, ArePlayed, ReadsPhase, IsBrought, IsUnclamped, IsMovedColumn, StaysInPhase, IsNearer, IsPhase, IsColumn};
+ghost use Rattle.same_phases.specs.Roles.{HaveRolesAt, IsBrought, IsColumn, IsMovedColumn, IsOnePhase, IsPhase, ReadsPhase, StaysInPhase};
 
 use crate::role::{Place, Role, role_of};
 use dk_types::{TypedProgram, TypedRead};
@@ -66,10 +66,11 @@ fn reads_phase_of(
     a: TypedRead,
     b: TypedRead,
 ) -> bool
-    requires split { IsSplit at.phases (typing_of old.now) (typing_of new.now) }
-    requires below { at.phase < at.phases }
-    requires shows { IsPhase at.phases (typing_of old.now) (typing_of new.now) a.image phase b.image }
-    ensures { IsTrue result → ReadsPhase at.phases (typing_of old.now) (typing_of new.now) at.phase a b }
+    requires phase { IsOnePhase at.phases at.phase (typing_of old.now) (typing_of new.now) }
+    requires shows { IsPhase at.phases (typing_of old.now) (typing_of new.now)
+        a.image phase b.image }
+    ensures { IsTrue result
+        → ReadsPhase at.phases (typing_of old.now) (typing_of new.now) at.phase a b }
 {
     if b.dy != a.dy {
         return false;
@@ -98,10 +99,11 @@ fn reads_column_of(
     a: TypedRead,
     b: TypedRead,
 ) -> bool
-    requires split { IsSplit at.phases (typing_of old.now) (typing_of new.now) }
-    requires below { at.phase < at.phases }
-    requires shows { IsColumn at.phases (typing_of old.now) (typing_of new.now) a.image column b.image }
-    ensures { IsTrue result → ReadsPhase at.phases (typing_of old.now) (typing_of new.now) at.phase a b }
+    requires phase { IsOnePhase at.phases at.phase (typing_of old.now) (typing_of new.now) }
+    requires shows { IsColumn at.phases (typing_of old.now) (typing_of new.now)
+        a.image column b.image }
+    ensures { IsTrue result
+        → ReadsPhase at.phases (typing_of old.now) (typing_of new.now) at.phase a b }
 {
     if b.dy != a.dy {
         return false;
@@ -127,10 +129,9 @@ pub fn reads_phase(
     a: TypedRead,
     b: TypedRead,
 ) -> bool
-    requires split { IsSplit at.phases (typing_of old.now) (typing_of new.now) }
-    requires below { at.phase < at.phases }
-    requires roles { ArePlayed at.phases (typing_of old.now) (typing_of new.now) roles.now }
-    ensures { IsTrue result → ReadsPhase at.phases (typing_of old.now) (typing_of new.now) at.phase a b }
+    requires { HaveRolesAt at.phases at.phase (typing_of old.now) (typing_of new.now) roles.now }
+    ensures { IsTrue result
+        → ReadsPhase at.phases (typing_of old.now) (typing_of new.now) at.phase a b }
 {
     match role_of(roles, b.image) {
         Some(Role::Phase(image, phase)) => {

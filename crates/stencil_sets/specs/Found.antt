@@ -1,14 +1,17 @@
 -- Used by private functions only.
 -- Live reads as they are found, one after another in order.
-use Rattle.std.specs.Prelude.{◌≡◌, ℕ, ◌+◌, ℤ, ◌≤ℤ◌, ◌<ℤ◌, ◌⊎◌, ◌↔◌, Contains, List, [], ◌∷◌, length}
-use Rattle.dk_base.specs.declared.TheConstants.{MAX_COUNTED_READS}
+use Rattle.std.specs.Prelude.{◌≡◌, ℕ, ◌+◌, ◌*◌, ◌≤◌, ℤ, ◌≤ℤ◌, ◌<ℤ◌, ◌⊎◌, ◌↔◌, Contains, List, [], ◌∷◌, length, All, unsigned_abs, Result, OnOk, IfOk, IfErr}
+use Rattle.dk_base.specs.declared.TheConstants.{MAX_SIDE, MAX_COUNTED_READS}
 use Rattle.dk_base.specs.declared.stencils.LiveRead.{LiveRead}
 use Rattle.dk_base.specs.Stencils.{IsBefore, AreInOrder}
+use Rattle.dk_base.specs.Frames.{Size}
+use Rattle.pointwise_ir.specs.Trees.{Tree}
 use Rattle.pointwise_ir.specs.Stencils.{the}
 use Rattle.stencil_sets.specs.declared.found.Halt.{Halt}
 use Rattle.stencil_sets.specs.declared.found.Halt.TheVariants.{Full, OutOfMemory}
 use Rattle.stencil_sets.specs.declared.path.Rect.{Rect}
 use Rattle.frame_paths.specs.Moves.{IsOffset}
+use Rattle.stencil_sets.specs.Paths.{IsNearRect, Covered, ReadsAt}
 
 -- all of these are before it
 abbrev pub AllBefore : List LiveRead → LiveRead → Type 0
@@ -34,6 +37,38 @@ AllFrom least (r ∷ rs) = (least ≤ℤ r.across.least) × AllFrom least rs
 abbrev pub AreSorted : List Rect → Type 0
 AreSorted [] = Unit {0}
 AreSorted (r ∷ rs) = AllFrom r.across.least rs × AreSorted rs
+
+-- Rectangles as a search goes through them.
+pub record AreRects (rects : List Rect) : Type 0 where
+  -- their offsets are not far
+  pub near : All IsNearRect rects
+  -- they are in the order of their first columns
+  pub sorted : AreSorted rects
+
+-- What an expression reads in some pixel, as rectangles.
+pub record AreRectsOf (size : Size) (e : Tree) (rects : List Rect) : Type 0 where
+  -- they have all the offsets that it reads, and no others
+  pub exact : (g : ℕ) (dx dy : ℤ) → Covered rects g dx dy ↔ ReadsAt size e g dx dy
+  -- which are not far
+  pub near : All IsNearRect rects
+  -- they are in the order of their first columns
+  pub sorted : AreSorted rects
+
+-- Those of some rectangles that are of image g.
+pub record AreOfImage (rects : List Rect) (g : ℕ) (chosen : List Rect) : Type 0 where
+  -- they have all its offsets, and no others
+  pub exact : (dy dx : ℤ) → InRows chosen dy dx ↔ Covered rects g dx dy
+  -- which are not far
+  pub near : All IsNearRect chosen
+  -- they are in the order of their first columns
+  pub sorted : AreSorted chosen
+
+-- Reads in order to which this one can be added.
+pub record IsOpen (reads : List LiveRead) (next : LiveRead) : Type 0 where
+  -- they are in order
+  pub order : AreInOrder reads
+  -- all are before it
+  pub before : AllBefore reads next
 
 -- reads of image b by image a in one row, from a column offset on
 pub record IsLeft (rects : List Rect) (a b : ℕ) (row from : ℤ) (f g : ℕ) (dx dy : ℤ) : Type 0 where
@@ -61,6 +96,17 @@ pub record IsAmong (first end : ℤ) (rect : Rect) : Type 0 where
   pub least : first ≤ℤ rect.down.least
   pub greatest : rect.down.greatest <ℤ end
 
+-- The rows of some rectangles are among those from one to before another.
+pub record AreAmong (low high : ℤ) (rects : List Rect) : Type 0 where
+  -- those of each
+  pub among : All (IsAmong low high) rects
+  -- there may be none
+  pub order : low ≤ℤ high
+  -- the first is not far
+  pub first : unsigned_abs low ≤ 2 * MAX_SIDE
+  -- and neither is the end
+  pub end : unsigned_abs high ≤ 2 * MAX_SIDE + 1
+
 -- from `end` on, nothing of the rectangle's row is left, and between `next` and there it has all from its first column offset on
 pub record IsBehind (rect : Rect) (dy next end : ℤ) : Type 0 where
   pub later : next ≤ℤ end
@@ -86,6 +132,26 @@ pub record IsRun (a b : ℕ) (row from end : ℤ) (f g : ℕ) (dx dy : ℤ) : Ty
   pub down : dy ≡ row
   pub low : from ≤ℤ dx
   pub high : dx <ℤ end
+
+-- The reads that a rectangle has in one row from one column offset on are found, up to before another.
+pub record IsPartEnd (reads : List LiveRead) (f g : ℕ) (rect : Rect) (row from end : ℤ) : Type 0 where
+  -- what follows is behind all that are found
+  pub before : AllBefore reads (the f g end row)
+  -- nothing of the rectangle's row is left
+  pub behind : IsBehind rect row from end
+
+-- A function adds the reads of a kind to those that are found. Where it does not end early, `next` is so of its value.
+pub record Finds {T : Type 0} (old new : List LiveRead) (kind : (f g : ℕ) → (dx dy : ℤ) → Type 0) (result : Result T Halt) (next : T → Type 0) : Type 0 where
+  -- all are in order, also where it ends early
+  pub order : AreInOrder new
+  -- all of the kind are found
+  pub found : OnOk result (Gains old new kind)
+  -- and nothing else, also where it ends early
+  pub sound : Within old new kind
+  -- what follows is behind them
+  pub before : IfOk result next
+  -- it ends early only where there are too many, or no memory
+  pub stopped : IfErr result (λ halt. Stopped halt new)
 
 -- what holds while a run is found: it is found up to before this column offset
 pub record RunSoFar (old new : List LiveRead) (a b : ℕ) (row from col : ℤ) : Type 0 where

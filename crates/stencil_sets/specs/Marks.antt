@@ -4,6 +4,9 @@ use Rattle.std.specs.Prelude.{◌≡◌, ℕ, ℤ, ◌+◌, ◌<◌, ◌≤◌, 
 use Rattle.pointwise_ir.specs.Trees.{Tree}
 use Rattle.pointwise_ir.specs.Programs.{Program, bodies_of}
 use Rattle.pointwise_ir.specs.Reads.{Kept}
+use Rattle.pointwise_ir.specs.Stencils.{AreImages}
+use Rattle.dk_base.specs.declared.stencils.Image.{Image}
+use Rattle.dk_base.specs.Stencils.{AreKeptImages}
 use Rattle.stencil_sets.specs.Paths.{ReadsAt}
 
 abbrev pub IsMarked : List Bool → ℕ → Type 0
@@ -14,6 +17,13 @@ pub record AreMarks (p : Program) (kept : List Bool) : Type 0 where
   pub one_each : length kept ≡ length p.inputs + length p.images
   pub sound : (g : ℕ) → IsMarked kept g → Kept p g
   pub complete : (g : ℕ) → Kept p g → IsMarked kept g
+
+-- The kept images of a program, with their widths.
+pub record AreKeptOf (p : Program) (xs : List Image) : Type 0 where
+  -- they are the images that are kept
+  pub images : AreImages p xs
+  -- they have the form of kept images, of which the first are the inputs
+  pub form : AreKeptImages (length p.inputs) xs
 
 -- these are marked too, where they are there, and no others
 pub record MarksMore (old new : List Bool) (P : ℕ → Type 0) : Type 0 where

@@ -1,10 +1,8 @@
 // The kept images with their widths.
 
-ghost use Rattle.std.specs.Prelude.{◌≡◌, ◌++◌, ◌∷◌, [], OnOk, IfOk, length};
+ghost use Rattle.std.specs.Prelude.{◌≡◌, ◌++◌, ◌∷◌, [], OnOk, IfOk};
 ghost use Rattle.dk_base.specs.Types.{width_of};
-ghost use Rattle.dk_base.specs.Stencils.{AreKeptImages};
-ghost use Rattle.pointwise_ir.specs.Stencils.{AreImages};
-ghost use Rattle.stencil_sets.specs.Marks.{AreMarks};
+ghost use Rattle.stencil_sets.specs.Marks.{AreKeptOf, AreMarks};
 
 use dk_base::{Image, OutOfMemory, Ty};
 use pointwise_ir::Program;
@@ -12,7 +10,8 @@ use std::alloc::Global;
 
 // One image more.
 fn push_kept(images: &mut Vec<Image>, number: u32, ty: Ty) -> Result<(), OutOfMemory>
-    ensures { OnOk result (images.new.items ≡ images.old.items ++ (record { number = number; width = width_of ty }) ∷ []) }
+    ensures { OnOk result (images.new.items
+        ≡ images.old.items ++ (record { number = number; width = width_of ty }) ∷ []) }
 {
     let width = ty.width();
     images.push(Image { number, width })?;
@@ -26,8 +25,7 @@ pub(crate) fn images_of(
     kept: &[bool],
 ) -> Result<Vec<Image>, OutOfMemory>
     requires { AreMarks ir.now kept.now }
-    ensures images { IfOk result (λ v. AreImages ir.now v.items) }
-    ensures form { IfOk result (λ v. AreKeptImages (length ir.now.inputs) v.items) }
+    ensures { IfOk result (λ v. AreKeptOf ir.now v.items) }
 {
     ir.law();
     let mut images = Vec::new(alloc);

@@ -1,9 +1,8 @@
 // The images that are kept.
 
-ghost use Rattle.std.specs.Prelude.{◌≡◌, ◌+◌, ◌<◌, ◌≤◌, ◌⊎◌, ℕ, ℤ, IsTrue, OnOk, IfOk, All, Contains, length};
+ghost use Rattle.std.specs.Prelude.{◌≡◌, ◌+◌, ◌<◌, ◌≤◌, ℕ, ℤ, IsTrue, OnOk, IfOk, Contains, length};
 ghost use Rattle.dk_base.specs.FrameSizes.{size_of};
 ghost use Rattle.pointwise_ir.specs.Trees.{tree_of};
-ghost use Rattle.pointwise_ir.specs.Programs.{Program as TheProgram, IsProgram, bodies_of};
 ghost use Rattle.pointwise_ir.specs.Reads.{Kept};
 ghost use Rattle.stencil_sets.specs.Paths.{IsIn, Covered, ReadsAt};
 ghost use Rattle.stencil_sets.specs.Marks.{IsMarked, AreMarks, MarksMore, MarkedSoFar};
@@ -42,7 +41,8 @@ fn mark_rect(kept: &mut [bool], rect: Rect)
 
 // Marks the images that some rectangle has.
 fn mark_rects(kept: &mut [bool], rects: &[Rect])
-    ensures more { MarksMore kept.old kept.new (λ h. (dx : ℤ) × (dy : ℤ) × Covered rects.now h dx dy) }
+    ensures more { MarksMore kept.old kept.new
+        (λ h. (dx : ℤ) × (dy : ℤ) × Covered rects.now h dx dy) }
 {
     for rect in rects {
         mark_rect(kept, *rect);
@@ -56,7 +56,8 @@ fn mark_reads(
     body: &Expr,
     kept: &mut [bool],
 ) -> Result<(), OutOfMemory>
-    ensures more { OnOk result (MarksMore kept.old kept.new (λ h. (dx : ℤ) × (dy : ℤ) × ReadsAt (size_of size) (tree_of body.now) h dx dy)) }
+    ensures more { OnOk result (MarksMore kept.old kept.new
+        (λ h. (dx : ℤ) × (dy : ℤ) × ReadsAt (size_of size) (tree_of body.now) h dx dy)) }
     ensures length { length kept.new ≡ length kept.old }
 {
     let rects = rects_of(alloc, size, body)?;

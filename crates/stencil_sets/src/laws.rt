@@ -14,5 +14,6 @@ pub fn one_answer_law()
     ensures images { (p : Program) (a b : List Image) → AreImages p a → AreImages p b → a ≡ b }
     ensures reads { (p : Program) (a b : List LiveRead) → AreReads p a → AreReads p b → a ≡ b }
     ensures count { (p : Program) (m n : ℕ) → HasCount p m → HasCount p n → m ≡ n }
-    ensures apart { (p : Program) (s : Stencils) (n : ℕ) → AreStencilsOf p s → length s.reads ≤ MAX_LIVE_READS → HasCount p n → n ≤ MAX_LIVE_READS }
+    ensures apart { (p : Program) (s : Stencils) (n : ℕ) → AreStencilsOf p s
+        → length s.reads ≤ MAX_LIVE_READS → HasCount p n → n ≤ MAX_LIVE_READS }
 {}

@@ -2,9 +2,8 @@
 
 ghost use Rattle.std.specs.Prelude.{◌≡◌, ◌+◌, ◌≤◌, ◌<◌, IfOk, IfErr, length};
 ghost use Rattle.dk_base.specs.declared.TheConstants.{MAX_COUNTED_READS};
-ghost use Rattle.dk_base.specs.Stencils.{AreKeptImages};
-ghost use Rattle.pointwise_ir.specs.Stencils.{AreReads, AreImages, AreStencilsOf};
-ghost use Rattle.stencil_sets.specs.Marks.{AreMarks};
+ghost use Rattle.pointwise_ir.specs.Stencils.{AreReads, AreStencilsOf};
+ghost use Rattle.stencil_sets.specs.Marks.{AreKeptOf, AreMarks};
 ghost use Rattle.stencil_sets.specs.Faults.{IsFault};
 
 use crate::found::Halt;
@@ -64,8 +63,7 @@ fn stencils_of(
     reads: Vec<LiveRead>,
 ) -> Result<Stencils, StencilFault>
     requires outputs { outputs.items ≡ ir.now.outputs }
-    requires images { AreImages ir.now images.items }
-    requires form { AreKeptImages (length ir.now.inputs) images.items }
+    requires kept { AreKeptOf ir.now images.items }
     requires reads { AreReads ir.now reads.items }
     ensures stencils { IfOk result (λ s. AreStencilsOf ir.now s) }
     ensures fault { IfErr result (λ fault. IsFault ir.now fault) }
@@ -88,8 +86,7 @@ fn kept_of(
 ) -> Result<(Vec<u32>, Vec<Image>), OutOfMemory>
     requires { AreMarks ir.now kept.now }
     ensures outputs { IfOk result (λ r. r.0.items ≡ ir.now.outputs) }
-    ensures images { IfOk result (λ r. AreImages ir.now r.1.items) }
-    ensures form { IfOk result (λ r. AreKeptImages (length ir.now.inputs) r.1.items) }
+    ensures kept { IfOk result (λ r. AreKeptOf ir.now r.1.items) }
 {
     let outputs = Vec::from_slice(alloc, ir.outputs())?;
     let images = images_of(alloc, ir, kept)?;

@@ -21,7 +21,8 @@ pub struct Rect {
 // The offsets from where the path begins to where it ends, as reads of the image.
 fn rect_of(path: Path, size: FrameSize, image: u32) -> Rect
     requires { IsPath (size_of size) path }
-    ensures leads { (g : ℕ) (dx dy : ℤ) → IsIn result g dx dy ↔ (image ≡ g) × (x : ℤ) × (y : ℤ) × LeadsTo path x y (x +ℤ dx) (y +ℤ dy) }
+    ensures leads { (g : ℕ) (dx dy : ℤ) → IsIn result g dx dy
+        ↔ (image ≡ g) × (x : ℤ) × (y : ℤ) × LeadsTo path x y (x +ℤ dx) (y +ℤ dy) }
     ensures near { IsNearRect result }
 {
     let across = path.across.offsets(size.width);

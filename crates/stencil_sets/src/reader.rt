@@ -1,13 +1,12 @@
 // The live reads of one image.
 
-ghost use Rattle.std.specs.Prelude.{◌≡◌, ◌≢◌, ◌++◌, ◌∷◌, [], ◌≤◌, ◌<◌, ◌↔◌, ◌⊎◌, ℕ, ℤ, OnOk, IfOk, IfErr, All, List, length};
+ghost use Rattle.std.specs.Prelude.{◌≡◌, ◌≢◌, ◌++◌, ◌∷◌, [], ◌⊎◌, ℕ, ℤ, OnOk, IfOk};
 ghost use Rattle.dk_base.specs.FrameSizes.{size_of};
-ghost use Rattle.dk_base.specs.Stencils.{AreInOrder};
 ghost use Rattle.pointwise_ir.specs.Trees.{tree_of};
 ghost use Rattle.stencil_sets.specs.declared.found.TheConstants.{FIRST_OFFSET};
-ghost use Rattle.stencil_sets.specs.Paths.{IsNearRect, Covered, ReadsAt, IsByReader, IsOfReader};
+ghost use Rattle.stencil_sets.specs.Paths.{IsByReader, IsOfReader};
 ghost use Rattle.pointwise_ir.specs.Stencils.{the};
-ghost use Rattle.stencil_sets.specs.Found.{AllBefore, Stopped, Gains, Within, InRows, AreSorted};
+ghost use Rattle.stencil_sets.specs.Found.{AllBefore, AreOfImage, AreRects, AreRectsOf, Finds, IsOpen};
 
 use crate::found::{Halt, push_image};
 use crate::path::{Rect, add_reads};
@@ -26,9 +25,7 @@ fn first_column(rect: &Rect) -> i32
 
 // What the expression reads in some pixel, as rectangles in the order of their first columns.
 pub fn rects_of(alloc: Global, size: FrameSize, body: &Expr) -> Result<Vec<Rect>, OutOfMemory>
-    ensures exact { IfOk result (λ v. (g : ℕ) (dx dy : ℤ) → Covered v.items g dx dy ↔ ReadsAt (size_of size) (tree_of body.now) g dx dy) }
-    ensures near { IfOk result (λ v. All IsNearRect v.items) }
-    ensures sorted { IfOk result (λ v. AreSorted v.items) }
+    ensures { IfOk result (λ v. AreRectsOf (size_of size) (tree_of body.now) v.items) }
 {
     let mut rects = Vec::new(alloc);
     add_reads(&mut rects, size, body, Path::none(size))?;
@@ -49,11 +46,8 @@ fn choose(chosen: &mut SmallVec<Rect, 8>, rect: Rect, g: u32) -> Result<(), OutO
 
 // The rectangles of image g, in their order.
 fn of_image(alloc: Global, rects: &[Rect], g: u32) -> Result<SmallVec<Rect, 8>, OutOfMemory>
-    requires near { All IsNearRect rects.now }
-    requires sorted { AreSorted rects.now }
-    ensures exact { IfOk result (λ v. (dy dx : ℤ) → InRows v.items dy dx ↔ Covered rects.now g dx dy) }
-    ensures near { IfOk result (λ v. All IsNearRect v.items) }
-    ensures sorted { IfOk result (λ v. AreSorted v.items) }
+    requires { AreRects rects.now }
+    ensures { IfOk result (λ v. AreOfImage rects.now g v.items) }
 {
     let mut chosen = SmallVec::new(alloc);
     for rect in rects {
@@ -70,15 +64,10 @@ fn push_source(
     g: u32,
     rects: &[Rect],
 ) -> Result<(), Halt>
-    requires order { AreInOrder all.old.items }
-    requires before { AllBefore all.old.items (the f g FIRST_OFFSET FIRST_OFFSET) }
-    requires near { All IsNearRect rects.now }
-    requires sorted { AreSorted rects.now }
-    ensures order { AreInOrder all.new.items }
-    ensures found { OnOk result (Gains all.old.items all.new.items (λ f' g' dx dy. IsByReader rects.now f g f' g' dx dy)) }
-    ensures sound { Within all.old.items all.new.items (λ f' g' dx dy. IsByReader rects.now f g f' g' dx dy) }
-    ensures before { OnOk result ((d : ℤ) × (e : ℤ) × AllBefore all.new.items (the f g d e)) }
-    ensures stopped { IfErr result (λ halt. Stopped halt all.new.items) }
+    requires open { IsOpen all.old.items (the f g FIRST_OFFSET FIRST_OFFSET) }
+    requires rects { AreRects rects.now }
+    ensures { Finds all.old.items all.new.items (IsByReader rects.now f g) result
+        (λ _. (d : ℤ) × (e : ℤ) × AllBefore all.new.items (the f g d e)) }
 {
     match of_image(alloc, rects, g) {
         Ok(chosen) => push_image(all, f, g, chosen.as_slice()),
@@ -93,15 +82,10 @@ pub(crate) fn push_reader(
     f: u32,
     rects: &[Rect],
 ) -> Result<(), Halt>
-    requires order { AreInOrder all.old.items }
-    requires before { AllBefore all.old.items (the f 0 FIRST_OFFSET FIRST_OFFSET) }
-    requires near { All IsNearRect rects.now }
-    requires sorted { AreSorted rects.now }
-    ensures order { AreInOrder all.new.items }
-    ensures found { OnOk result (Gains all.old.items all.new.items (λ f' g dx dy. IsOfReader rects.now f f' g dx dy)) }
-    ensures sound { Within all.old.items all.new.items (λ f' g dx dy. IsOfReader rects.now f f' g dx dy) }
-    ensures before { OnOk result ((g : ℕ) × (d : ℤ) × (e : ℤ) × AllBefore all.new.items (the f g d e)) }
-    ensures stopped { IfErr result (λ halt. Stopped halt all.new.items) }
+    requires open { IsOpen all.old.items (the f 0 FIRST_OFFSET FIRST_OFFSET) }
+    requires rects { AreRects rects.now }
+    ensures { Finds all.old.items all.new.items (IsOfReader rects.now f) result
+        (λ _. (g : ℕ) × (d : ℤ) × (e : ℤ) × AllBefore all.new.items (the f g d e)) }
 {
     for g in 0..f {
         push_source(alloc, all, f, g, rects)?;

@@ -1,11 +1,10 @@
 // The live reads of all kept images.
 
-ghost use Rattle.std.specs.Prelude.{◌≡◌, [], ◌<◌, ◌≤◌, ℕ, ℤ, OnOk, IfErr};
+ghost use Rattle.std.specs.Prelude.{◌≡◌, [], ◌<◌, ℕ, ℤ, OnOk, IfErr};
 ghost use Rattle.dk_base.specs.FrameSizes.{size_of};
-ghost use Rattle.dk_base.specs.Stencils.{AreInOrder};
 ghost use Rattle.pointwise_ir.specs.Trees.{tree_of};
 ghost use Rattle.pointwise_ir.specs.Stencils.{the, AreReads};
-ghost use Rattle.stencil_sets.specs.Found.{AllBefore, Stopped, Gains, Within};
+ghost use Rattle.stencil_sets.specs.Found.{AllBefore, Finds, IsOpen, Stopped};
 ghost use Rattle.stencil_sets.specs.declared.found.TheConstants.{FIRST_OFFSET};
 ghost use Rattle.stencil_sets.specs.Live.{AreSome};
 ghost use Rattle.stencil_sets.specs.Paths.{ReadsAt, IsReadOf};
@@ -25,14 +24,12 @@ fn push_body(
     size: FrameSize,
     body: &Expr,
 ) -> Result<(), Halt>
-    requires order { AreInOrder all.old.items }
-    requires before { AllBefore all.old.items (the f 0 FIRST_OFFSET FIRST_OFFSET) }
-    requires earlier { (g : ℕ) (dx dy : ℤ) → ReadsAt (size_of size) (tree_of body.now) g dx dy → g < f }
-    ensures order { AreInOrder all.new.items }
-    ensures found { OnOk result (Gains all.old.items all.new.items (λ f' g dx dy. IsReadOf (size_of size) (tree_of body.now) f f' g dx dy)) }
-    ensures sound { Within all.old.items all.new.items (λ f' g dx dy. IsReadOf (size_of size) (tree_of body.now) f f' g dx dy) }
-    ensures before { OnOk result ((g : ℕ) × (d : ℤ) × (e : ℤ) × AllBefore all.new.items (the f g d e)) }
-    ensures stopped { IfErr result (λ halt. Stopped halt all.new.items) }
+    requires open { IsOpen all.old.items (the f 0 FIRST_OFFSET FIRST_OFFSET) }
+    requires earlier { (g : ℕ) (dx dy : ℤ)
+        → ReadsAt (size_of size) (tree_of body.now) g dx dy → g < f }
+    ensures { Finds all.old.items all.new.items
+        (IsReadOf (size_of size) (tree_of body.now) f) result
+        (λ _. (g : ℕ) × (d : ℤ) × (e : ℤ) × AllBefore all.new.items (the f g d e)) }
 {
     match rects_of(alloc, size, body) {
         Ok(rects) => push_reader(alloc, all, f, &rects),

@@ -11,10 +11,12 @@ binary_value-value-requires c =
     rw (to_z-of_z w128 c.in_ok-left.left.value left, to_z-of_z w128 c.in_ok-right.right.value right)
     (takes_two c.args.op _ _ _ _ _ _ _ c.in_ok-left.ensures.found c.in_ok-right.ensures.found c.requires (sym c.in_ok-ty.ensures.value))
 
-pub returns-clause-found : goal.returns-clause-found
-returns-clause-found c =
-    let value : FitsSigned w128 c.binary_value-value.result = search rules in
-    let left : FitsSigned w128 c.in_ok-left.left.value = search rules in
-    let right : FitsSigned w128 c.in_ok-right.right.value = search rules in
-    rw (to_z-of_z w128 c.binary_value-value.result value, c.binary_value-value.ensures, to_z-of_z w128 c.in_ok-left.left.value left, to_z-of_z w128 c.in_ok-right.right.value right)
-    (binary_worth c.args.op _ _ _ _ _ _ _ c.in_ok-left.ensures.found c.in_ok-right.ensures.found c.requires (sym c.in_ok-ty.ensures.value))
+pub returns : goal.returns
+returns c = record {
+  found = let value : FitsSigned w128 c.binary_value-value.result = search rules in
+      let left : FitsSigned w128 c.in_ok-left.left.value = search rules in
+      let right : FitsSigned w128 c.in_ok-right.right.value = search rules in
+      rw (to_z-of_z w128 c.binary_value-value.result value, c.binary_value-value.ensures, to_z-of_z w128 c.in_ok-left.left.value left, to_z-of_z w128 c.in_ok-right.right.value right)
+      (binary_worth c.args.op _ _ _ _ _ _ _ c.in_ok-left.ensures.found c.in_ok-right.ensures.found c.requires (sym c.in_ok-ty.ensures.value));
+  none = search rules;
+}

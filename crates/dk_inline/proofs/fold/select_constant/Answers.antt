@@ -4,11 +4,13 @@ use mir.Syntax.{w128}
 use Rattle.dk_inline.proofs.Replacements.{select_worth}
 use Rattle.dk_inline.proofs.fold.select_constant.Goals as goal
 
-pub returns-clause-found : goal.returns-clause-found
-returns-clause-found c =
-    let value : FitsSigned w128 c.select_value-value.result = search rules in
-    let condition : FitsSigned w128 c.in_ok-condition.condition.value = search rules in
-    let left : FitsSigned w128 c.in_ok-left.left.value = search rules in
-    let right : FitsSigned w128 c.in_ok-right.right.value = search rules in
-    rw (to_z-of_z w128 c.select_value-value.result value, c.select_value-value.ensures, to_z-of_z w128 c.in_ok-condition.condition.value condition, to_z-of_z w128 c.in_ok-left.left.value left, to_z-of_z w128 c.in_ok-right.right.value right)
-    (select_worth _ _ _ _ _ _ _ _ _ _ c.in_ok-condition.ensures.found c.in_ok-left.ensures.found c.in_ok-right.ensures.found c.requires (sym c.in_ok-ty.ensures.value))
+pub returns : goal.returns
+returns c = record {
+  found = let value : FitsSigned w128 c.select_value-value.result = search rules in
+      let condition : FitsSigned w128 c.in_ok-condition.condition.value = search rules in
+      let left : FitsSigned w128 c.in_ok-left.left.value = search rules in
+      let right : FitsSigned w128 c.in_ok-right.right.value = search rules in
+      rw (to_z-of_z w128 c.select_value-value.result value, c.select_value-value.ensures, to_z-of_z w128 c.in_ok-condition.condition.value condition, to_z-of_z w128 c.in_ok-left.left.value left, to_z-of_z w128 c.in_ok-right.right.value right)
+      (select_worth _ _ _ _ _ _ _ _ _ _ c.in_ok-condition.ensures.found c.in_ok-left.ensures.found c.in_ok-right.ensures.found c.requires (sym c.in_ok-ty.ensures.value));
+  none = search rules;
+}

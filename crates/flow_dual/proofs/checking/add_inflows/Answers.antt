@@ -1,4 +1,4 @@
-use Rattle.std.proofs.Common.{◌<◌, length, pos, length, slice_index, arith, ◌∙◌}
+use Rattle.std.proofs.Common.{◌<◌, length, pos, slice_index, arith, rules, ◌∙◌}
 use Rattle.raster_delay.specs.Network.{constraint_at}
 use Rattle.flow_dual.proofs.Balances.{added, spot_most, brought_more, brought_all}
 use Rattle.flow_dual.proofs.checking.add_inflows.Goals as goal
@@ -11,9 +11,12 @@ loop-i-preserved c =
     let place = (constraint_at cs i).target in
     let below : place < length c.loop-i.inflows = omega (arith, c.requires.targets i (record { source = 0; target = 0; cost = pos 0 }) (omega arith), c.loop-i.auto.inflows) in
     record {
-      value = λ v. omega (arith, added c.loop-i.inflows place (slice_index flow i) v below, c.loop-i.invariant.value v, brought_more cs flow i v (omega arith) c.requires.flows);
-      near = λ v. omega (arith, added c.loop-i.inflows place (slice_index flow i) v below, c.loop-i.invariant.near v, spot_most place (slice_index flow i) v, c.requires.amounts i);
+      value = λ v. omega (arith, added c.loop-i.inflows place (slice_index flow i) v below, c.loop-i.invariant.value v, brought_more cs flow i v (omega arith) c.requires.flow.flows);
+      near = λ v. omega (arith, added c.loop-i.inflows place (slice_index flow i) v below, c.loop-i.invariant.near v, spot_most place (slice_index flow i) v, c.requires.flow.amounts i);
     }
 
-pub returns-clause-value : goal.returns-clause-value
-returns-clause-value c = λ v. c.loop-i.invariant.value v ∙ brought_all c.args.constraints.now c.args.flow.now c.loop-i.i v (omega arith)
+pub returns : goal.returns
+returns c = record {
+  sums_are = search rules;
+  value = λ v. c.loop-i.invariant.value v ∙ brought_all c.args.constraints.now c.args.flow.now c.loop-i.i v (omega arith);
+}

@@ -1,39 +1,23 @@
-use Rattle.std.proofs.Common.{◌≡◌, ◌≤◌, ◌^◌, ℕ, length, slice_index, arith, ◌∙◌}
+use Rattle.std.proofs.Common.{◌≡◌, ◌<◌, ℕ, pos, slice_index, ◌∙◌}
+use Rattle.std.specs.Prelude.{◌-ℤ◌}
 use Rattle.std.proofs.lemmas.Bool.{OnTrue_at, OnTrue_from}
-use Rattle.std.specs.Prelude.{pos, ◌<◌, ◌-ℤ◌}
 use Rattle.raster_delay.specs.Network.{inflow, outflow}
-use Rattle.raster_delay.specs.Systems.{IsBalanced, image_count, nodes, widths, placed_reads, constraints_in, coefficient_in}
-use Rattle.raster_delay.proofs.Within.{within_all}
-use Rattle.raster_delay.proofs.Places.{system_form}
-use Rattle.raster_delay.proofs.Parts.{length_all}
+use Rattle.raster_delay.specs.Systems.{IsBalanced, nodes, constraints_in, coefficient_in}
 use Rattle.flow_dual.proofs.Balances.{balanced_from}
+use Rattle.flow_dual.proofs.Networks.{network_in}
 use Rattle.flow_dual.proofs.checking.is_balanced.Goals as goal
 
-pub inflows-requires-clause-count : goal.inflows-requires-clause-count
-inflows-requires-clause-count c =
-    let s = c.args.system.now in
-    let form = system_form s c.law.ensures in
-    let count : length (constraints_in s) ≤ 2 ^ 14 = omega (arith, length_all s.stencils.width s.age s.stencils.inputs (image_count s) (placed_reads s) form.inputs_kept, form.image_limit, form.count) in
-    rw c.constraints-constraints.ensures.form count
+pub inflows-requires-clause-flow : goal.inflows-requires-clause-flow
+inflows-requires-clause-flow c = rw c.constraints-constraints.ensures.form c.requires
 
 pub inflows-requires-clause-targets : goal.inflows-requires-clause-targets
-inflows-requires-clause-targets c =
-    let s = c.args.system.now in
-    let within = within_all s.stencils.width s.age s.stencils.inputs (image_count s) (widths s) (placed_reads s) (system_form s c.law.ensures) in
-    rw (c.constraints-constraints.ensures.form, c.nodes.ensures) within.targets
+inflows-requires-clause-targets c = rw (c.constraints-constraints.ensures.form, c.nodes.ensures) (network_in c.args.system.now c.law.ensures).targets
 
-pub outflows-requires-clause-count : goal.outflows-requires-clause-count
-outflows-requires-clause-count c =
-    let s = c.args.system.now in
-    let form = system_form s c.law.ensures in
-    let count : length (constraints_in s) ≤ 2 ^ 14 = omega (arith, length_all s.stencils.width s.age s.stencils.inputs (image_count s) (placed_reads s) form.inputs_kept, form.image_limit, form.count) in
-    rw c.constraints-constraints.ensures.form count
+pub outflows-requires-clause-flow : goal.outflows-requires-clause-flow
+outflows-requires-clause-flow c = rw c.constraints-constraints.ensures.form c.requires
 
 pub outflows-requires-clause-sources : goal.outflows-requires-clause-sources
-outflows-requires-clause-sources c =
-    let s = c.args.system.now in
-    let within = within_all s.stencils.width s.age s.stencils.inputs (image_count s) (widths s) (placed_reads s) (system_form s c.law.ensures) in
-    rw (c.constraints-constraints.ensures.form, c.nodes-2.ensures) within.sources
+outflows-requires-clause-sources c = rw (c.constraints-constraints.ensures.form, c.nodes-2.ensures) (network_in c.args.system.now c.law.ensures).sources
 
 pub returns : goal.returns
 returns c =
@@ -49,4 +33,4 @@ returns c =
     let ys_are = c.deref-2.ensures.value in
     OnTrue_from c.are_balanced-balanced.result (IsBalanced s flow) (λ yes.
     let same : (v : ℕ) → v < nodes s → pos (slice_index xs v) -ℤ pos (slice_index ys v) ≡ coefficient_in s v = rw (← xs_are, ← ys_are) (OnTrue_at yes c.are_balanced-balanced.ensures) in
-    balanced_from s flow xs ys c.law.ensures c.requires.flows (c.in_ok-inflows.ensures.length ∙ c.nodes.ensures) (c.in_ok-outflows.ensures.length ∙ c.nodes-2.ensures) into out same)
+    balanced_from s flow xs ys c.law.ensures c.requires.flows (c.in_ok-inflows.ensures.sums_are.length_is ∙ c.nodes.ensures) (c.in_ok-outflows.ensures.sums_are.length_is ∙ c.nodes-2.ensures) into out same)

@@ -1,9 +1,9 @@
 use Rattle.std.proofs.Common.{◌≡◌, ◌≤◌, ◌<◌, ◌+◌, ◌-◌, ℕ, slice_index, arith, sym, subst, inl, inr}
 use Rattle.std.proofs.lemmas.Int.{ints}
 use Rattle.raster_delay.specs.Network.{constraint_at}
-use Rattle.flow_dual.specs.Tree.{IsClosed, ChangesOnlyOn, LeavesRoom}
+use Rattle.flow_dual.specs.Tree.{IsClosed, ChangesOnlyOn, LeavesRoom, Shifts}
 use Rattle.flow_dual.proofs.Pushes.{Moves-more}
-use Rattle.flow_dual.proofs.Raising.{Shifts, shifted_holds, shifted_complementary, pushed_complementary, near_root, cases_zero}
+use Rattle.flow_dual.proofs.Raising.{shifted_holds, shifted_complementary, pushed_complementary, near_root, cases_zero}
 use Rattle.flow_dual.proofs.sending.send.Goals as goal
 use Rattle.flow_dual.proofs.sending.send.Goals.{then-order-end-ne0, else-order-end-ne0}
 
@@ -52,7 +52,7 @@ loop-rest-preserved c =
             rest = invariant.rest;
             numbers = λ v. elim (cases_zero (slice_index order v)) [
               | inl out ↦ omega (arith, others v out, invariant.numbers v)
-              | inr in' ↦ omega (arith, reached v in', near_root cs p flow order parent begin told.tree told.tight c.requires.costs v in', told.bound v, below, invariant.end)
+              | inr in' ↦ omega (arith, reached v in', near_root cs p flow order parent begin told.tree told.tight c.requires.network.costs v in', told.bound v, below, invariant.end)
             ];
             end = omega (arith, others end stops, invariant.end);
             amounts = invariant.amounts;

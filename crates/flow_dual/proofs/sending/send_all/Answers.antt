@@ -1,4 +1,4 @@
-use Rattle.std.proofs.Common.{◌≡◌, ◌≤◌, ◌<◌, length, get_or, slice_index, arith, ap, sym, ◌∙◌}
+use Rattle.std.proofs.Common.{◌≡◌, ◌≤◌, ◌<◌, length, get_or, slice_index, arith, rules, ap, sym, ◌∙◌}
 use Rattle.std.proofs.lemmas.Int.{ints}
 use Rattle.std.proofs.lemmas.List.{get_or-map, length-map}
 use Rattle.dk_base.specs.declared.stencils.Image.{Image}
@@ -7,10 +7,10 @@ use Rattle.raster_delay.specs.Delays.{begin_of, end_of}
 use Rattle.raster_delay.specs.Systems.{image_count, widths, placed_reads, constraints_in}
 use Rattle.raster_delay.specs.declared.network.Constraint.{Constraint}
 use Rattle.raster_delay.proofs.Amounts.{spot, amount-more, amount-all}
-use Rattle.raster_delay.proofs.Within.{within_all, small_all}
 use Rattle.raster_delay.proofs.Places.{system_form}
 use Rattle.raster_delay.proofs.Parts.{hold_at, length_all}
 use Rattle.flow_dual.specs.Tree.{Moves}
+use Rattle.flow_dual.proofs.Networks.{network_in}
 use Rattle.flow_dual.proofs.Pushes.{empty_balanced}
 use Rattle.flow_dual.proofs.sending.send_all.Goals as goal
 
@@ -23,22 +23,9 @@ loop-image-init c = record {
   sent = λ v. omega (arith, empty_balanced (constraints_in c.args.system.now) c.args.flow.now c.requires.empty v);
 }
 
-pub send-requires-clause-sources : goal.send-requires-clause-sources
-send-requires-clause-sources c =
-    let s = c.args.system.now in
-    let within = within_all s.stencils.width s.age s.stencils.inputs (image_count s) (widths s) (placed_reads s) (system_form s c.law.ensures) in
-    rw (c.constraints-constraints.ensures.form, c.loop-image.auto.numbers ∙ c.requires.nodes) within.sources
-
-pub send-requires-clause-targets : goal.send-requires-clause-targets
-send-requires-clause-targets c =
-    let s = c.args.system.now in
-    let within = within_all s.stencils.width s.age s.stencils.inputs (image_count s) (widths s) (placed_reads s) (system_form s c.law.ensures) in
-    rw (c.constraints-constraints.ensures.form, c.loop-image.auto.numbers ∙ c.requires.nodes) within.targets
-
-pub send-requires-clause-costs : goal.send-requires-clause-costs
-send-requires-clause-costs c =
-    let s = c.args.system.now in
-    rw c.constraints-constraints.ensures.form (small_all s.stencils.width s.age s.stencils.inputs (image_count s) (widths s) (placed_reads s) (system_form s c.law.ensures))
+pub send-requires-clause-network : goal.send-requires-clause-network
+send-requires-clause-network c =
+    rw (c.constraints-constraints.ensures.form, c.loop-image.auto.numbers ∙ c.requires.nodes_are) (network_in c.args.system.now c.law.ensures)
 
 pub send-requires-clause-hold : goal.send-requires-clause-hold
 send-requires-clause-hold c =
@@ -72,10 +59,10 @@ loop-image-preserved c =
     let target : (constraint_at cs i).target ≡ end_of inputs n i = ap (λ (c : Constraint). c.target) hold in
     let moves : Moves cs c.loop-image.flow c.send.new.flow (constraint_at cs i).source (constraint_at cs i).target sent = rw (← value) told.moves in
     record {
-      numbers = told.numbers;
-      amounts = told.amounts;
-      holds = rw (← value) told.holds;
-      carries = rw (← value) told.carries;
+      numbers = told.sent.numbers;
+      amounts = told.sent.amounts;
+      holds = rw (← value) told.sent.holds;
+      carries = rw (← value) told.sent.carries;
       sent = λ v. omega (
         arith,
         moves v,
@@ -89,17 +76,22 @@ loop-image-preserved c =
       );
     }
 
-pub returns-clause-balanced : goal.returns-clause-balanced
-returns-clause-balanced c =
+pub returns : goal.returns
+returns c =
     let s = c.args.system.now in
     let end : length (widths s) ≤ c.loop-image.image = omega (arith, ap length c.images-images.ensures, length-map s.stencils.images (λ (i : Image). i.width)) in
     record {
-      one_each = c.loop-image.auto.flow ∙ c.requires.flows;
-      balanced = λ v. omega (
-        arith,
-        ints,
-        c.loop-image.invariant.sent v,
-        amount-all s.stencils.inputs (image_count s) (widths s) (λ (b : Buffer). b.begin) c.loop-image.image v end,
-        amount-all s.stencils.inputs (image_count s) (widths s) (λ (b : Buffer). b.end) c.loop-image.image v end,
-      );
+      numbers = search rules;
+      holds = c.loop-image.invariant.holds;
+      carries = c.loop-image.invariant.carries;
+      balanced = record {
+        one_each = c.loop-image.auto.flow ∙ c.requires.flows;
+        balanced = λ v. omega (
+          arith,
+          ints,
+          c.loop-image.invariant.sent v,
+          amount-all s.stencils.inputs (image_count s) (widths s) (λ (b : Buffer). b.begin) c.loop-image.image v end,
+          amount-all s.stencils.inputs (image_count s) (widths s) (λ (b : Buffer). b.end) c.loop-image.image v end,
+        );
+      };
     }

@@ -2,36 +2,37 @@ use Rattle.std.proofs.Common.{◌≡◌, ◌≤◌, ◌<◌, ℕ, pos, slice_ind
 use Rattle.std.proofs.lemmas.List.{get_or_past}
 use Rattle.std.proofs.lemmas.Bool.{cases_lt}
 use Rattle.raster_delay.specs.Network.{constraint_at}
-use Rattle.flow_dual.specs.Tree.{IsClosed}
+use Rattle.flow_dual.specs.Tree.{IsClosed, Sinks}
 use Rattle.flow_dual.proofs.Raising.{near_root, cases_zero}
-use Rattle.flow_dual.proofs.Least.{Sinks, sink_room, sunk_holds, sunk_complementary, sum-less, least_of_reached}
+use Rattle.flow_dual.proofs.Least.{sink_room, sunk_holds, sunk_complementary, sum-less, least_of_reached}
 use Rattle.flow_dual.proofs.settling.settle.Goals as goal
 
-pub returns-in-None-clause-near : goal.returns-in-None-clause-near
-returns-in-None-clause-near c = λ v.
+pub returns-in-None : goal.returns-in-None
+returns-in-None c =
+    let cs = c.args.network.now.constraints.now in
+    let flow = c.args.flow.now in
+    let p = c.loop-tree.numbers in
     let told = c.in_ok-tree.ensures in
     let order = c.in_ok-tree.tree.order.items in
+    let parent = c.in_ok-tree.tree.parent.items in
     let all : (v : ℕ) → v < length order → 0 < slice_index order v = rw (← c.as_slice-order.ensures.value) c.in-None.ensures.none in
-    elim (cases_lt v (length c.loop-tree.numbers)) [
-      | inl h ↦ omega (
-        arith,
-        near_root c.args.network.now.constraints.now c.loop-tree.numbers c.args.flow.now order c.in_ok-tree.tree.parent.items 0 told.tree told.tight c.requires.costs v
-            (all v (omega (arith, told.sizes.0))),
-        told.bound v,
-        c.requires.nodes,
-        c.loop-tree.auto.numbers,
-        c.loop-tree.invariant.zero,
-      )
-      | inr h ↦ omega (arith, get_or_past c.loop-tree.numbers v 0 h)
-    ]
-
-pub returns-in-None-clause-least : goal.returns-in-None-clause-least
-returns-in-None-clause-least c = λ d holds carries v h.
-    let told = c.in_ok-tree.ensures in
-    let order = c.in_ok-tree.tree.order.items in
-    let all : (v : ℕ) → v < length order → 0 < slice_index order v = rw (← c.as_slice-order.ensures.value) c.in-None.ensures.none in
-    least_of_reached c.args.network.now.constraints.now c.loop-tree.numbers c.args.flow.now order c.in_ok-tree.tree.parent.items told.tree told.tight c.loop-tree.invariant.zero d holds carries v
-    (all v (omega (arith, told.sizes.0)))
+    record {
+      zero = c.loop-tree.invariant.zero;
+      near = λ v. elim (cases_lt v (length p)) [
+        | inl h ↦ omega (
+          arith,
+          near_root cs p flow order parent 0 told.tree told.tight c.requires.state.costs v (all v (omega (arith, told.sizes.0))),
+          told.bound v,
+          c.requires.nodes,
+          c.loop-tree.auto.numbers,
+          c.loop-tree.invariant.zero,
+        )
+        | inr h ↦ omega (arith, get_or_past p v 0 h)
+      ];
+      holds = c.loop-tree.invariant.holds;
+      carries = c.loop-tree.invariant.carries;
+      least = λ d holds carries v h. least_of_reached cs p flow order parent told.tree told.tight c.loop-tree.invariant.zero d holds carries v (all v (omega (arith, told.sizes.0)));
+    }
 
 pub least_slack-by-requires-clause-closed : goal.least_slack-by-requires-clause-closed
 least_slack-by-requires-clause-closed c =
@@ -76,10 +77,10 @@ loop-tree-preserved c =
     sink_room cs (length c.args.numbers.now) order p by c.requires.rooted root invariant.holds c.least_slack-by.ensures.least v v (omega arith) (omega (arith, h, c.loop-tree.auto.numbers)) out in
     let can : (i : ℕ) → i < length cs → (slice_index order (constraint_at cs i).source ≡ 0 → by ≤ slice_index p (constraint_at cs i).source)
     × (slice_index order (constraint_at cs i).target ≡ 0 → by ≤ slice_index p (constraint_at cs i).target) = λ i h. (
-      room (constraint_at cs i).source (omega (arith, c.requires.sources i (record { source = 0; target = 0; cost = pos 0 }) h, c.loop-tree.auto.numbers)),
-      room (constraint_at cs i).target (omega (arith, c.requires.targets i (record { source = 0; target = 0; cost = pos 0 }) h, c.loop-tree.auto.numbers)),
+      room (constraint_at cs i).source (omega (arith, c.requires.state.sources i (record { source = 0; target = 0; cost = pos 0 }) h, c.loop-tree.auto.numbers)),
+      room (constraint_at cs i).target (omega (arith, c.requires.state.targets i (record { source = 0; target = 0; cost = pos 0 }) h, c.loop-tree.auto.numbers)),
     ) in
-    let sinks : Sinks order p new by = record { reached = c.lower.ensures.reached; others = c.lower.ensures.others } in
+    let sinks : Sinks order p new by = c.lower.ensures in
     record {
       numbers = λ v. elim (cases_zero (slice_index order v)) [
         | inl out ↦ omega (arith, c.lower.ensures.others v out, invariant.numbers v)

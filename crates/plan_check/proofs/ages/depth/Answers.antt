@@ -1,4 +1,4 @@
-use Rattle.std.proofs.Common.{◌<◌, ◌+◌, pos, drop, length, get_or, arith, ap, inl, inr}
+use Rattle.std.proofs.Common.{◌<◌, ◌+◌, [], pos, drop, length, get_or, arith, ap, inl, inr}
 use Rattle.std.proofs.lemmas.Bool.{cases_eq}
 use Rattle.std.proofs.lemmas.List.{drop_more}
 use Rattle.raster_delay.specs.Delays.{depth_of}
@@ -18,6 +18,6 @@ loop-r-preserved c =
     let split = ap (λ xs. depth_of row d xs c.args.g) (drop_more reads i none below) in
     let told = c.deeper-greatest.ensures in
     elim (cases_eq (get_or reads i none).g c.args.g) [
-      | inl same ↦ omega (arith, c.loop-r.invariant, split, depth-cons_yes row d (get_or reads i none) (drop (i + 1) reads) c.args.g same, told.of_it same)
-      | inr other ↦ omega (arith, c.loop-r.invariant, split, depth-cons_no row d (get_or reads i none) (drop (i + 1) reads) c.args.g other, told.of_others other)
+      | inl same ↦ omega (arith, c.loop-r.invariant, split, depth-cons_yes row d (get_or reads i none) (drop (i + 1) reads) c.args.g same, told, depth-cons_yes row d (get_or reads i none) [] c.args.g same)
+      | inr other ↦ omega (arith, c.loop-r.invariant, split, depth-cons_no row d (get_or reads i none) (drop (i + 1) reads) c.args.g other, told, depth-cons_no row d (get_or reads i none) [] c.args.g other)
     ]

@@ -11,5 +11,5 @@ returns c =
     let one = c.index-images-r.result in
     let other = c.index-images-r-2.result in
     let reader : slice_index (delays_of images) c.args.r.f ≡ (slice_index_or images c.args.r.f one).delay = get_or-map (λ (i : ImageLine). i.delay) images c.args.r.f one 0 c.requires.reader in
-    let source : slice_index (delays_of images) c.args.r.g ≡ (slice_index_or images c.args.r.g other).delay = get_or-map (λ (i : ImageLine). i.delay) images c.args.r.g other 0 c.requires.earlier in
+    let source : slice_index (delays_of images) c.args.r.g ≡ (slice_index_or images c.args.r.g other).delay = get_or-map (λ (i : ImageLine). i.delay) images c.args.r.g other 0 c.requires.source in
     omega (arith, ints, c.age.ensures, reader, source)

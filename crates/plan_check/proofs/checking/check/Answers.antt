@@ -12,24 +12,24 @@ pub returns-then-flow_holds-clause-judged : goal.returns-then-flow_holds-clause-
 returns-then-flow_holds-clause-judged c =
     let s = c.args.system.now in
     let r = parts_of c.args.report.now in
-    none_wrong s r (images_keep s r c.in-None.ensures) (latencies_keep s r (images_keep s r c.in-None.ensures) c.in-None-faulty_latency.ensures)
-    (c.in-None-faulty_sum.ensures.0, (c.in-None-faulty_sum.ensures.1, tt)) c.in-None-faulty_constraint.ensures
-    (subst (λ xs. FlowHolds s xs r.bits) c.deref-2.ensures.value (c.if-flow_holds.ensures.yes refl))
+    let t = c.in-None-faulty_sum.ensures in
+    none_wrong s r (images_keep s r t.images) (latencies_keep s r (images_keep s r t.images) t.latencies) (t.clocks, (t.bits, tt)) c.in-None-faulty_constraint.ensures
+    (subst (λ xs. FlowHolds s xs r.bits) c.deref-2.ensures.value (c.if-flow_holds.ensures.0 refl))
 
 pub returns-then-flow_holds-clause-least : goal.returns-then-flow_holds-clause-least
 returns-then-flow_holds-clause-least c = λ _.
     let s = c.args.system.now in
     let r = parts_of c.args.report.now in
+    let t = c.in-None-faulty_sum.ensures in
     are_least s c.law.ensures r c.requires.images (of_rules s r
-    (none_wrong s r (images_keep s r c.in-None.ensures) (latencies_keep s r (images_keep s r c.in-None.ensures) c.in-None-faulty_latency.ensures)
-    (c.in-None-faulty_sum.ensures.0, (c.in-None-faulty_sum.ensures.1, tt)) c.in-None-faulty_constraint.ensures
-    (subst (λ xs. FlowHolds s xs r.bits) c.deref-2.ensures.value (c.if-flow_holds.ensures.yes refl))))
+    (none_wrong s r (images_keep s r t.images) (latencies_keep s r (images_keep s r t.images) t.latencies) (t.clocks, (t.bits, tt)) c.in-None-faulty_constraint.ensures
+    (subst (λ xs. FlowHolds s xs r.bits) c.deref-2.ensures.value (c.if-flow_holds.ensures.0 refl))))
 
 pub returns-else-flow_holds-clause-judged : goal.returns-else-flow_holds-clause-judged
 returns-else-flow_holds-clause-judged c =
     let s = c.args.system.now in
     let r = parts_of c.args.report.now in
+    let t = c.in-None-faulty_sum.ensures in
     subst (IsFirst (Breaks (number_rules s r))) (sym c.last_line.ensures)
-    (wrong_flow s r (images_keep s r c.in-None.ensures) (latencies_keep s r (images_keep s r c.in-None.ensures) c.in-None-faulty_latency.ensures)
-    (c.in-None-faulty_sum.ensures.0, (c.in-None-faulty_sum.ensures.1, tt)) c.in-None-faulty_constraint.ensures
-    (λ h. let e : ⊥ = cc (c.if-flow_holds.ensures.no (subst (λ xs. FlowHolds s xs r.bits) (sym c.deref-2.ensures.value) h)) in e))
+    (wrong_flow s r (images_keep s r t.images) (latencies_keep s r (images_keep s r t.images) t.latencies) (t.clocks, (t.bits, tt)) c.in-None-faulty_constraint.ensures
+    (λ h. let e : ⊥ = cc (c.if-flow_holds.ensures.1 (subst (λ xs. FlowHolds s xs r.bits) (sym c.deref-2.ensures.value) h)) in e))

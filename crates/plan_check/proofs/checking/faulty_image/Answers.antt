@@ -11,7 +11,10 @@ use Rattle.plan_check.proofs.checking.faulty_image.Goals as goal
 pub returns-in-None : goal.returns-in-None
 returns-in-None c =
     let s = c.args.system.now in
-    subst (λ xs. (k : ℕ) → k < length xs → ImageHolds s xs k) c.deref.ensures.value c.in-None.ensures
+    record {
+      suits = c.requires;
+      images = subst (λ xs. (k : ℕ) → k < length xs → ImageHolds s xs k) c.deref.ensures.value c.in-None.ensures;
+    }
 
 pub returns-in-Some : goal.returns-in-Some
 returns-in-Some c =

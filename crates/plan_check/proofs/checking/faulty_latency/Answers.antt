@@ -12,8 +12,12 @@ pub returns-in-None : goal.returns-in-None
 returns-in-None c =
     let s = c.args.system.now in
     let r = parts_of c.args.report.now in
-    subst (λ xs. (k : ℕ) → k < length r.latencies → LatencyHolds s xs r.latencies k) c.deref.ensures.value
-    (subst (λ ys. (k : ℕ) → k < length ys → LatencyHolds s c.deref.result.now ys k) c.deref-2.ensures.value c.in-None.ensures)
+    record {
+      suits = c.requires.suits;
+      images = c.requires.images;
+      latencies = subst (λ xs. (k : ℕ) → k < length r.latencies → LatencyHolds s xs r.latencies k) c.deref.ensures.value
+          (subst (λ ys. (k : ℕ) → k < length ys → LatencyHolds s c.deref.result.now ys k) c.deref-2.ensures.value c.in-None.ensures);
+    }
 
 pub returns-in-Some : goal.returns-in-Some
 returns-in-Some c =

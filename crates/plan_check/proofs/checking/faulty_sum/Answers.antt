@@ -31,4 +31,10 @@ returns c =
     let r = parts_of c.args.report.now in
     let right : r.clocks ≡ clocks_of r = sym c.from.ensures ∙ c.if-from-clocks.false ∙ c.clocks.ensures in
     let sum : c.bits.result ≡ bits s (delays r) = c.bits.ensures ∙ ap bits_of_lines c.deref.ensures.value ∙ bits_of_delays s c.law.ensures r.images c.requires.suits.images c.requires.images in
-    (right, sym c.from-2.ensures ∙ c.if-from-bits.false ∙ sum)
+    record {
+      suits = c.requires.suits;
+      images = c.requires.images;
+      latencies = c.requires.latencies;
+      clocks = right;
+      bits = sym c.from-2.ensures ∙ c.if-from-bits.false ∙ sum;
+    }

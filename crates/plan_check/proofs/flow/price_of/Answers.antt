@@ -4,7 +4,7 @@ use Rattle.raster_delay.specs.declared.network.Constraint.{Constraint}
 use Rattle.plan_check.proofs.flow.price_of.Goals as goal
 
 pub price-requires-clause-low : goal.price-requires-clause-low
-price-requires-clause-low c = omega (arith, ints, ap (λ (k : Constraint). k.cost) c.constraint_of.ensures, c.cost_law.ensures.0, c.cost_law.ensures.1)
+price-requires-clause-low c = omega (arith, ints, ap (λ (k : Constraint). k.cost) c.constraint_of.ensures, c.constraint_law.ensures.cost.0, c.constraint_law.ensures.cost.1)
 
 pub price-requires-clause-high : goal.price-requires-clause-high
-price-requires-clause-high c = omega (arith, ints, ap (λ (k : Constraint). k.cost) c.constraint_of.ensures, c.cost_law.ensures.0, c.cost_law.ensures.1)
+price-requires-clause-high c = omega (arith, ints, ap (λ (k : Constraint). k.cost) c.constraint_of.ensures, c.constraint_law.ensures.cost.0, c.constraint_law.ensures.cost.1)

@@ -9,8 +9,8 @@ loop-line-preserved c =
     let i = c.loop-line.line-index in
     let below : i < length flow = omega arith in
     record {
-      brought = λ v. omega (arith, c.loop-line.invariant.brought v, inflow_more s flow i below v, c.add_line.ensures.brought v);
-      taken = λ v. omega (arith, c.loop-line.invariant.taken v, outflow_more s flow i below v, c.add_line.ensures.taken v);
-      few_brought = λ v. omega (arith, c.loop-line.invariant.few_brought v, c.add_line.ensures.few_brought v);
-      few_taken = λ v. omega (arith, c.loop-line.invariant.few_taken v, c.add_line.ensures.few_taken v);
+      brought = λ v. omega (arith, c.loop-line.invariant.brought v, inflow_more s flow i below v, c.add_line.ensures.brought.value v);
+      taken = λ v. omega (arith, c.loop-line.invariant.taken v, outflow_more s flow i below v, c.add_line.ensures.taken.value v);
+      few_brought = λ v. omega (arith, c.loop-line.invariant.few_brought v, c.add_line.ensures.brought.most v);
+      few_taken = λ v. omega (arith, c.loop-line.invariant.few_taken v, c.add_line.ensures.taken.most v);
     }

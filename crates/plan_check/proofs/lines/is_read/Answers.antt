@@ -12,7 +12,7 @@ loop-low-preserved-then-is_earlier c =
     record {
       ordered = omega arith;
       within = c.loop-low.invariant.within;
-      before = not_before reads c.requires c.args.read m none within (c.if-is_earlier.ensures.yes refl);
+      before = not_before reads c.requires c.args.read m none within (c.if-is_earlier.ensures.0 refl);
       behind = c.loop-low.invariant.behind;
     }
 
@@ -27,5 +27,5 @@ loop-low-preserved c =
       within = omega arith;
       before = c.loop-low.invariant.before;
       behind = not_behind reads c.requires c.args.read m none within
-          (λ h. let e : ⊥ = cc (c.if-is_earlier.ensures.no h) in e) (λ h. let e : ⊥ = cc (c.if-is_same.ensures.no h) in e);
+          (λ h. let e : ⊥ = cc (c.if-is_earlier.ensures.1 h) in e) (λ h. let e : ⊥ = cc (c.if-is_same.ensures.1 h) in e);
     }

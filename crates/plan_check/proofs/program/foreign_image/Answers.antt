@@ -13,13 +13,17 @@ returns-then-not-is_of_size c =
     let names = names_of c.args.ir.now in
     let s = c.args.stencils.now in
     let r = parts_of c.args.report.now in
-    subst (IsFirst (Breaks (program_rules names s r))) (sym c.size_line.ensures.value) (wrong_size names s r (λ h. let e : ⊥ = cc (c.if-not-is_of_size.ensures.no h) in e))
+    subst (IsFirst (Breaks (program_rules names s r))) (sym c.size_line.ensures.value) (wrong_size names s r (λ h. let e : ⊥ = cc (c.if-not-is_of_size.ensures.1 h) in e))
 
 pub returns-in-None : goal.returns-in-None
 returns-in-None c =
     let names = names_of c.args.ir.now in
     let s = c.args.stencils.now in
-    (c.if-not-is_of_size.ensures.yes refl, subst (λ xs. (k : ℕ) → k < length xs → IsNamed names s xs k) c.deref.ensures.value c.in-None.ensures)
+    record {
+      few = c.requires.few;
+      size = c.if-not-is_of_size.ensures.0 refl;
+      named = subst (λ xs. (k : ℕ) → k < length xs → IsNamed names s xs k) c.deref.ensures.value c.in-None.ensures;
+    }
 
 pub returns-in-Some : goal.returns-in-Some
 returns-in-Some c =
@@ -27,6 +31,6 @@ returns-in-Some c =
     let s = c.args.stencils.now in
     let r = parts_of c.args.report.now in
     let w = c.in-Some.k in
-    let right : IsOfSize s r = c.if-not-is_of_size.ensures.yes refl in
+    let right : IsOfSize s r = c.if-not-is_of_size.ensures.0 refl in
     let e : image_number r w ≡ c.size_line-in-Some.result + 1 + w = omega (arith, c.size_line-in-Some.ensures.value) in
     subst (IsFirst (Breaks (program_rules names s r))) e (wrong_name names s r right w (subst (λ xs. IsFirst (Misses (λ k. IsNamed names s xs k) (length xs)) w) c.deref.ensures.value c.in-Some.ensures))

@@ -34,4 +34,10 @@ returns c =
     let r = parts_of c.args.report.now in
     let enough : length s.images ≤ length r.images = omega (arith, c.len-2.ensures, ap length c.images.ensures, c.if-len-images.false) in
     let most : length r.latencies ≤ length s.outputs = omega (arith, c.len-3.ensures, ap length c.outputs.ensures, c.if-len-outputs.false) in
-    (enough, most)
+    record {
+      few = c.requires.few;
+      size = c.requires.size;
+      named = c.requires.named;
+      enough = enough;
+      outputs = most;
+    }

@@ -23,7 +23,7 @@ returns-then-not-has_reads c =
     let r = parts_of c.args.report.now in
     let enough : length s.outputs ≤ length r.latencies = omega (arith, c.len.ensures, ap length c.outputs.ensures, c.if-len-outputs.false) in
     let e : bits_number r + 1 ≡ c.bits_line.result + 1 = omega (arith, c.bits_line.ensures.value) in
-    subst (IsFirst (Breaks (program_rules names s r))) e (wrong_reads names s r (names_keep names s r c.requires.size c.requires.named) (outputs_keep names s r (names_keep names s r c.requires.size c.requires.named) c.requires.enough c.requires.outputs) enough (λ h. let e : ⊥ = cc (c.if-not-has_reads.ensures.no h) in e))
+    subst (IsFirst (Breaks (program_rules names s r))) e (wrong_reads names s r (names_keep names s r c.requires.size c.requires.named) (outputs_keep names s r (names_keep names s r c.requires.size c.requires.named) c.requires.enough c.requires.outputs) enough (λ h. let e : ⊥ = cc (c.if-not-has_reads.ensures.1 h) in e))
 
 pub returns : goal.returns
 returns c =
@@ -31,4 +31,4 @@ returns c =
     let s = c.args.stencils.now in
     let r = parts_of c.args.report.now in
     let enough : length s.outputs ≤ length r.latencies = omega (arith, c.len.ensures, ap length c.outputs.ensures, c.if-len-outputs.false) in
-    none_foreign names s r (names_keep names s r c.requires.size c.requires.named) (outputs_keep names s r (names_keep names s r c.requires.size c.requires.named) c.requires.enough c.requires.outputs) enough (c.if-not-has_reads.ensures.yes refl)
+    none_foreign names s r (names_keep names s r c.requires.size c.requires.named) (outputs_keep names s r (names_keep names s r c.requires.size c.requires.named) c.requires.enough c.requires.outputs) enough (c.if-not-has_reads.ensures.0 refl)

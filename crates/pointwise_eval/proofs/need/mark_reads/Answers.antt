@@ -39,5 +39,5 @@ loop-k-preserved c =
       long = c.loop-k.invariant.long;
       within = omega (arith, c.loop-k.invariant.within);
       kept = c.loop-k.invariant.kept;
-      closed = closed_left c.args.inputs bodies c.loop-k.until k (λ is. let e : true ≡ false = sym (c.is_needed.ensures.no is) ∙ c.if-is_needed.false in let f : ⊥ = cc in f) closed;
+      closed = closed_left c.args.inputs bodies c.loop-k.until k (λ is. let e : true ≡ false = sym (c.is_needed.ensures.1 is) ∙ c.if-is_needed.false in let f : ⊥ = cc in f) closed;
     }

@@ -10,4 +10,4 @@ pub returns : goal.returns
 returns c =
     let fits : FitsSigned w128 c.value_of.result = search rules in
     rw (to_z-of_z w128 c.value_of.result fits)
-    (plane_value (size_of c.args.size) c.args.planes.now c.args.image c.index-planes-image.result c.args.at.x c.args.at.y c.value_of.result c.requires.whole c.index-planes-image.is c.requires.across c.requires.down c.value_of.ensures)
+    (plane_value (size_of c.args.size) c.args.planes.now c.args.image c.index-planes-image.result c.args.at.x c.args.at.y c.value_of.result c.requires.whole c.index-planes-image.is c.requires.pixel.across c.requires.pixel.down c.value_of.ensures)

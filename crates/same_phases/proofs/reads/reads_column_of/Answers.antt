@@ -17,5 +17,5 @@ returns c = λ yes.
     let column : c.args.column ≡ (pos at.phase +ℤ a.dx) = sym (same_word w64 c.column_by.result c.args.column fits c.ranges.column c.if-column_by-column.false)
     ∙ from_word w32 (λ v. c.column_by.result ≡ (pos at.phase +ℤ v)) a.dx ax c.column_by.ensures in
     let here : b.dx ≡ pos 0 = search rules in
-    reads_column at.phases (typing_of c.args.old.now) (typing_of c.args.new.now) c.requires.split at.phase c.requires.below c.args.column a b
+    reads_column at.phases (typing_of c.args.old.now) (typing_of c.args.new.now) c.requires.phase.split at.phase c.requires.phase.below c.args.column a b
     (c.is_brought.ensures c.if-not-is_brought.false) (c.is_brought-2.ensures yes) (same_word w32 b.dy a.dy by ay c.if-b-a.false) here column c.requires.shows

@@ -14,33 +14,33 @@ loop-rect-preserved c =
     let e = to_z-of_z w32 c.in_ok-next.next (search rules) in
     subst (λ n. RowSoFar c.args.all.now.items c.push_part.new.all.items c.args.f c.args.g row rects (drop (i + 1) rects) n) (sym e)
     (row_more c.args.all.now.items c.loop-rect.all.items c.push_part.new.all.items c.args.f c.args.g row rects (drop i rects) (drop (i + 1) rects) (slice_index_or rects i none) (to_z w32 c.loop-rect.next-bits) c.in_ok-next.next
-    (drop_step rects i none c.loop-rect-test.true) c.loop-rect.invariant c.in_ok-next.ensures.order c.in_ok-next.ensures.before c.in_ok-next.ensures.found c.in_ok-next.ensures.end)
+    (drop_step rects i none c.loop-rect-test.true) c.loop-rect.invariant c.in_ok-next.ensures.order c.in_ok-next.ensures.before.before c.in_ok-next.ensures.found c.in_ok-next.ensures.before.behind)
 
-pub returns-clause-found : goal.returns-clause-found
-returns-clause-found c =
-    (row_done c.args.all.now.items c.loop-rect.all.items c.args.f c.args.g _ c.args.dy c.args.rects.now _ _ (to_z-of_z w32 c.args.dy c.ranges.dy) (drop_all c.args.rects.now c.loop-rect.rect-index c.loop-rect-test.false) c.loop-rect.invariant).0
+pub returns : goal.returns
+returns c = record {
+  order = search rules;
+  found = (row_done c.args.all.now.items c.loop-rect.all.items c.args.f c.args.g _ c.args.dy c.args.rects.now _ _ (to_z-of_z w32 c.args.dy c.ranges.dy) (drop_all c.args.rects.now c.loop-rect.rect-index c.loop-rect-test.false) c.loop-rect.invariant).0;
+  sound = λ f g dx dy h.
+      ((row_done c.args.all.now.items c.loop-rect.all.items c.args.f c.args.g _ c.args.dy c.args.rects.now _ _ (to_z-of_z w32 c.args.dy c.ranges.dy) (drop_all c.args.rects.now c.loop-rect.rect-index c.loop-rect-test.false) c.loop-rect.invariant).0 f g dx dy).0 h;
+  before = let done = row_done c.args.all.now.items c.loop-rect.all.items c.args.f c.args.g _ c.args.dy c.args.rects.now _ _ (to_z-of_z w32 c.args.dy c.ranges.dy) (drop_all c.args.rects.now c.loop-rect.rect-index c.loop-rect-test.false) c.loop-rect.invariant in
+      (done.1, done.2);
+  stopped = search rules;
+}
 
-pub returns-clause-sound : goal.returns-clause-sound
-returns-clause-sound c = λ f g dx dy h.
-    ((row_done c.args.all.now.items c.loop-rect.all.items c.args.f c.args.g _ c.args.dy c.args.rects.now _ _ (to_z-of_z w32 c.args.dy c.ranges.dy) (drop_all c.args.rects.now c.loop-rect.rect-index c.loop-rect-test.false) c.loop-rect.invariant).0 f g dx dy).0 h
+pub push_part-requires-clause-open : goal.push_part-requires-clause-open
+push_part-requires-clause-open c = record { order = c.loop-rect.invariant.order; before = c.loop-rect.invariant.before }
 
-pub returns-clause-before : goal.returns-clause-before
-returns-clause-before c =
-    let done = row_done c.args.all.now.items c.loop-rect.all.items c.args.f c.args.g _ c.args.dy c.args.rects.now _ _ (to_z-of_z w32 c.args.dy c.ranges.dy) (drop_all c.args.rects.now c.loop-rect.rect-index c.loop-rect-test.false) c.loop-rect.invariant in
-    (done.1, done.2)
-
-pub push_part-requires-clause-before : goal.push_part-requires-clause-before
-push_part-requires-clause-before c = c.loop-rect.invariant.before
-
-pub push_part-requires-clause-order : goal.push_part-requires-clause-order
-push_part-requires-clause-order c = c.loop-rect.invariant.order
-
-pub returns-in_err-next-clause-sound : goal.returns-in_err-next-clause-sound
-returns-in_err-next-clause-sound c =
-    let rects = c.args.rects.now in
-    let i = c.loop-rect.rect-index in
-    let row = to_z w32 (of_z w32 c.args.dy) in
-    let none : Rect = record { image = 0; across = record { least = pos 0; greatest = pos 0 }; down = record { least = pos 0; greatest = pos 0 } } in
-    subst (λ r. Within c.args.all.now.items c.push_part.new.all.items (λ f g dx dy. IsLeft rects c.args.f c.args.g r (neg_ℤ (pos 8192)) f g dx dy)) (to_z-of_z w32 c.args.dy c.ranges.dy)
-    (row_within c.args.all.now.items c.loop-rect.all.items c.push_part.new.all.items c.args.f c.args.g row rects (drop i rects) (drop (i + 1) rects) (slice_index_or rects i none) (to_z w32 c.loop-rect.next-bits)
-    (drop_step rects i none c.loop-rect-test.true) c.loop-rect.invariant c.in_err-next.ensures.sound)
+pub returns-in_err-next : goal.returns-in_err-next
+returns-in_err-next c = record {
+  order = search rules;
+  found = search rules;
+  sound = let rects = c.args.rects.now in
+      let i = c.loop-rect.rect-index in
+      let row = to_z w32 (of_z w32 c.args.dy) in
+      let none : Rect = record { image = 0; across = record { least = pos 0; greatest = pos 0 }; down = record { least = pos 0; greatest = pos 0 } } in
+      subst (λ r. Within c.args.all.now.items c.push_part.new.all.items (λ f g dx dy. IsLeft rects c.args.f c.args.g r (neg_ℤ (pos 8192)) f g dx dy)) (to_z-of_z w32 c.args.dy c.ranges.dy)
+      (row_within c.args.all.now.items c.loop-rect.all.items c.push_part.new.all.items c.args.f c.args.g row rects (drop i rects) (drop (i + 1) rects) (slice_index_or rects i none) (to_z w32 c.loop-rect.next-bits)
+      (drop_step rects i none c.loop-rect-test.true) c.loop-rect.invariant c.in_err-next.ensures.sound);
+  before = search rules;
+  stopped = search rules;
+}

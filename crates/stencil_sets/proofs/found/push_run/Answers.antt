@@ -1,4 +1,4 @@
-use Rattle.std.proofs.Common.{arith, to_z, of_z, w32}
+use Rattle.std.proofs.Common.{rules, arith, to_z, of_z, w32}
 use Rattle.std.proofs.lemmas.Int.{ints, to_z-of_z}
 use Rattle.stencil_sets.proofs.Ordered.{run_more, run_done, run_within}
 use Rattle.stencil_sets.proofs.found.push_run.Goals as goal
@@ -16,30 +16,32 @@ loop-dx-preserved c =
       omega (arith, ints, c.loop-dx-test.true, i.2, c.ranges.end),
     )
 
-pub returns-clause-found : goal.returns-clause-found
-returns-clause-found c =
-    let y = to_z-of_z w32 c.args.dy c.ranges.dy in
-    let z = to_z-of_z w32 c.args.from c.ranges.from in
-    let done = run_done c.args.all.now.items c.loop-dx.all.items c.args.f c.args.g _ c.args.dy _ c.args.from (to_z w32 c.loop-dx.dx-bits) c.args.end y z (omega (arith, ints, c.loop-dx-test.false, c.loop-dx.invariant.2, c.ranges.end)) c.loop-dx.invariant.0 in
-    done.gains
+pub returns : goal.returns
+returns c = record {
+  order = search rules;
+  found = let y = to_z-of_z w32 c.args.dy c.ranges.dy in
+      let z = to_z-of_z w32 c.args.from c.ranges.from in
+      let done = run_done c.args.all.now.items c.loop-dx.all.items c.args.f c.args.g _ c.args.dy _ c.args.from (to_z w32 c.loop-dx.dx-bits) c.args.end y z (omega (arith, ints, c.loop-dx-test.false, c.loop-dx.invariant.2, c.ranges.end)) c.loop-dx.invariant.0 in
+      done.gains;
+  sound = let y = to_z-of_z w32 c.args.dy c.ranges.dy in
+      let z = to_z-of_z w32 c.args.from c.ranges.from in
+      let done = run_done c.args.all.now.items c.loop-dx.all.items c.args.f c.args.g _ c.args.dy _ c.args.from (to_z w32 c.loop-dx.dx-bits) c.args.end y z (omega (arith, ints, c.loop-dx-test.false, c.loop-dx.invariant.2, c.ranges.end)) c.loop-dx.invariant.0 in
+      λ f g dx dy h. (done.gains f g dx dy).0 h;
+  before = let y = to_z-of_z w32 c.args.dy c.ranges.dy in
+      let z = to_z-of_z w32 c.args.from c.ranges.from in
+      let done = run_done c.args.all.now.items c.loop-dx.all.items c.args.f c.args.g _ c.args.dy _ c.args.from (to_z w32 c.loop-dx.dx-bits) c.args.end y z (omega (arith, ints, c.loop-dx-test.false, c.loop-dx.invariant.2, c.ranges.end)) c.loop-dx.invariant.0 in
+      done.before;
+  stopped = search rules;
+}
 
-pub returns-clause-sound : goal.returns-clause-sound
-returns-clause-sound c =
-    let y = to_z-of_z w32 c.args.dy c.ranges.dy in
-    let z = to_z-of_z w32 c.args.from c.ranges.from in
-    let done = run_done c.args.all.now.items c.loop-dx.all.items c.args.f c.args.g _ c.args.dy _ c.args.from (to_z w32 c.loop-dx.dx-bits) c.args.end y z (omega (arith, ints, c.loop-dx-test.false, c.loop-dx.invariant.2, c.ranges.end)) c.loop-dx.invariant.0 in
-    λ f g dx dy h. (done.gains f g dx dy).0 h
-
-pub returns-clause-before : goal.returns-clause-before
-returns-clause-before c =
-    let y = to_z-of_z w32 c.args.dy c.ranges.dy in
-    let z = to_z-of_z w32 c.args.from c.ranges.from in
-    let done = run_done c.args.all.now.items c.loop-dx.all.items c.args.f c.args.g _ c.args.dy _ c.args.from (to_z w32 c.loop-dx.dx-bits) c.args.end y z (omega (arith, ints, c.loop-dx-test.false, c.loop-dx.invariant.2, c.ranges.end)) c.loop-dx.invariant.0 in
-    done.before
-
-pub returns-in_err-push_read-clause-sound : goal.returns-in_err-push_read-clause-sound
-returns-in_err-push_read-clause-sound c =
-    let y = to_z-of_z w32 c.args.dy c.ranges.dy in
-    let z = to_z-of_z w32 c.args.from c.ranges.from in
-    run_within c.args.all.now.items c.loop-dx.all.items c.push_read.new.all.items c.args.f c.args.g _ c.args.dy _ c.args.from (to_z w32 c.loop-dx.dx-bits) c.args.end y z (omega (arith, ints, c.loop-dx-test.true, c.ranges.end))
-    c.in_err-push_read.ensures.same c.loop-dx.invariant.0
+pub returns-in_err-push_read : goal.returns-in_err-push_read
+returns-in_err-push_read c = record {
+  order = search rules;
+  found = search rules;
+  sound = let y = to_z-of_z w32 c.args.dy c.ranges.dy in
+      let z = to_z-of_z w32 c.args.from c.ranges.from in
+      run_within c.args.all.now.items c.loop-dx.all.items c.push_read.new.all.items c.args.f c.args.g _ c.args.dy _ c.args.from (to_z w32 c.loop-dx.dx-bits) c.args.end y z (omega (arith, ints, c.loop-dx-test.true, c.ranges.end))
+      c.in_err-push_read.ensures.same c.loop-dx.invariant.0;
+  before = search rules;
+  stopped = search rules;
+}

@@ -11,7 +11,7 @@ loop-rect-preserved c =
     let rects = c.args.rects.now in
     let i = c.loop-rect.rect-index in
     let none : Rect = record { image = 0; across = record { least = pos 0; greatest = pos 0 }; down = record { least = pos 0; greatest = pos 0 } } in
-    let near : IsNearRect (slice_index_or rects i none) = c.requires.near i none c.loop-rect-test.true in
+    let near : IsNearRect (slice_index_or rects i none) = c.requires i none c.loop-rect-test.true in
     let low = small32 (slice_index_or rects i none).down.least (omega (arith, near.down.least)) in
     let high = small32 (slice_index_or rects i none).down.greatest (omega (arith, near.down.greatest)) in
     let more = small32 ((slice_index_or rects i none).down.greatest +ℤ pos 1) (omega (arith, ints, near.down.greatest)) in

@@ -21,8 +21,8 @@ loop-g-preserved c =
           subst (λ v. ImagesSoFar p kept v.items (g + 1)) (sym w.images-is) (images_left p kept old g c.requires (mark_not kept g w.if-kept-g.false) c.loop-g.invariant)
     ]
 
-pub returns-clause-images : goal.returns-clause-images
-returns-clause-images c = images_done c.args.ir.now c.law.ensures c.args.kept.now c.loop-g.images.items c.loop-g.g c.requires c.loop-g-test.false c.loop-g.invariant
-
-pub returns-clause-form : goal.returns-clause-form
-returns-clause-form c = images_form c.args.ir.now c.law.ensures c.args.kept.now c.loop-g.images.items c.loop-g.g c.requires c.loop-g.auto.g-end c.loop-g-test.false c.loop-g.invariant
+pub returns : goal.returns
+returns c = record {
+  images = images_done c.args.ir.now c.law.ensures c.args.kept.now c.loop-g.images.items c.loop-g.g c.requires c.loop-g-test.false c.loop-g.invariant;
+  form = images_form c.args.ir.now c.law.ensures c.args.kept.now c.loop-g.images.items c.loop-g.g c.requires c.loop-g.auto.g-end c.loop-g-test.false c.loop-g.invariant;
+}

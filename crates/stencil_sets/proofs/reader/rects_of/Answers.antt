@@ -8,18 +8,13 @@ use Rattle.stencil_sets.specs.Paths.{IsNearRect}
 use Rattle.stencil_sets.proofs.Readers.{sorted_by, exact_after}
 use Rattle.stencil_sets.proofs.reader.rects_of.Goals as goal
 
-pub returns-clause-near : goal.returns-clause-near
-returns-clause-near c =
-    let none : c.new-rects.result.items ≡ [] = search rules in
-    All-permutation IsNearRect c.add_reads.new.all.items c.sort_by_key.new.self.items c.in_ok-sort_by_key.ensures.permutation
-    (c.in_ok-add_reads.ensures.near (subst (All IsNearRect) (sym none) (All-from_recursion IsNearRect [] tt)))
-
-pub returns-clause-exact : goal.returns-clause-exact
-returns-clause-exact c =
-    let none : c.new-rects.result.items ≡ [] = search rules in
-    exact_after (size_of c.args.size) (tree_of c.args.body.now) c.none.result c.new-rects.result.items c.add_reads.new.all.items c.sort_by_key.new.self.items none
-    c.none.ensures.leads c.in_ok-add_reads.ensures.added c.in_ok-sort_by_key.ensures.permutation
-
-pub returns-clause-sorted : goal.returns-clause-sorted
-returns-clause-sorted c =
-    sorted_by c.sort_by_key.new.self.items (c.in_ok-sort_by_key.ensures.sorted (λ (r : Rect). r.across.least) (answers_always _ _ _ (λ f a r h called. search rules)))
+pub returns : goal.returns
+returns c = record {
+  exact = let none : c.new-rects.result.items ≡ [] = search rules in
+      exact_after (size_of c.args.size) (tree_of c.args.body.now) c.none.result c.new-rects.result.items c.add_reads.new.all.items c.sort_by_key.new.self.items none
+      c.none.ensures.leads c.in_ok-add_reads.ensures.added c.in_ok-sort_by_key.ensures.permutation;
+  near = let none : c.new-rects.result.items ≡ [] = search rules in
+      All-permutation IsNearRect c.add_reads.new.all.items c.sort_by_key.new.self.items c.in_ok-sort_by_key.ensures.permutation
+      (c.in_ok-add_reads.ensures.near (subst (All IsNearRect) (sym none) (All-from_recursion IsNearRect [] tt)));
+  sorted = sorted_by c.sort_by_key.new.self.items (c.in_ok-sort_by_key.ensures.sorted (λ (r : Rect). r.across.least) (answers_always _ _ _ (λ f a r h called. search rules)));
+}
