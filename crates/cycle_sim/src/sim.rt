@@ -159,7 +159,8 @@ impl Sim {
         requires seen { length seen.old ≡ length (all_widths self.old.netlist) }
         ensures netlist { self.new.netlist ≡ self.old.netlist }
         ensures ok { OnOk result ((s : Snapshot)
-            × GoesOn self.old (clock reset enable dins.now) s self.new × (seen.new ≡ all_values s)) }
+            × GoesOn self.old (clock reset enable dins.now) s self.new
+            × (seen.new ≡ all_values s)) }
         ensures stops { IfErr result
             (λ r. StopsIn self.old (clock reset enable dins.now) r.array r.index) }
         ensures only { (x i : ℕ) → StopsIn self.old (clock reset enable dins.now) x i
