@@ -7,7 +7,7 @@ use Rattle.wiring.specs.Clock.{bit}
 use Rattle.batch_rows.specs.Rights.{IsAtomRow}
 use Rattle.batch_code.specs.Rows.{KeepsRegister}
 use Rattle.batch_sim.specs.Called.{of_clock}
-use Rattle.batch_sim.specs.Checked.{input_of}
+use Rattle.batch_sim.specs.Checked.{input_of, Follows}
 
 pub input_reset : (has_enable : Bool) (ports : ℕ) (enables : List Bool) (dins : List ℕ) (clock input : ℕ) → input ≡ 0 → 0 ≡ input_of has_enable ports enables dins clock input
 input_reset has_enable ports enables dins clock input e = ap (λ n. input_of has_enable ports enables dins clock n) (sym e)
@@ -22,8 +22,8 @@ pub input_din : (has_enable : Bool) (ports : ℕ) (enables : List Bool) (dins : 
 input_din true ports enables dins clock input j e l = sym (of_here ports clock j dins l) ∙ ap (λ n. input_of true ports enables dins clock n) {y = input} (sym (e ∙ (let z : 2 + j ≡ suc (suc j) = omega arith in z)))
 input_din false ports enables dins clock input j e l = sym (of_here ports clock j dins l) ∙ ap (λ n. input_of false ports enables dins clock n) {y = input} (sym (e ∙ (let z : 1 + j ≡ suc j = omega arith in z)))
 
-pub kept_register : (rows : List (List ℕ)) (count stored slot : ℕ) (next : Atom ℕ) (row later : List ℕ) → row ≡ slice_index_or rows slot [] → length later ≡ count → IsAtomRow rows next count later → slice_index row 0 ≡ stored → ((t : ℕ) → t < length later → slice_index row (suc t) ≡ slice_index later t) → KeepsRegister rows count stored slot next
-kept_register rows count stored slot next row later e long is first follows = record {
-  first = ap (λ (r : List ℕ). slice_index r 0) (sym e) ∙ first;
-  later = λ t l. ap (λ (r : List ℕ). slice_index r (suc t)) (sym e) ∙ follows t (omega (arith, l, long)) ∙ is t l;
+pub kept_register : (rows : List (List ℕ)) (count stored slot : ℕ) (next : Atom ℕ) (row later : List ℕ) → row ≡ slice_index_or rows slot [] → length later ≡ count → IsAtomRow rows next count later → Follows row later stored → KeepsRegister rows count stored slot next
+kept_register rows count stored slot next row later e long is follows = record {
+  first = ap (λ (r : List ℕ). slice_index r 0) (sym e) ∙ follows.first;
+  later = λ t l. ap (λ (r : List ℕ). slice_index r (suc t)) (sym e) ∙ follows.later t (omega (arith, l, long)) ∙ is t l;
 }

@@ -1,5 +1,5 @@
 -- Passes over the rows of an array.
-use Rattle.std.proofs.Common.{◌≡◌, ℕ, zero, suc, ◌<◌, List, [], ◌∷◌, length, take, refl, ap, sym, subst, ◌∙◌, arith}
+use Rattle.std.proofs.Common.{◌≡◌, ℕ, zero, suc, ◌<◌, Bool, List, [], ◌∷◌, length, take, refl, ap, sym, subst, ◌∙◌, arith}
 use Rattle.std.specs.Prelude.{◌≢◌, slice_index, slice_index_or, slice_set}
 use Rattle.std.proofs.lemmas.List.{get_or-take, length-set}
 use Rattle.wiring.specs.declared.right.Atom.{Atom}
@@ -11,7 +11,7 @@ use Rattle.batch_code.specs.Rows.{atom_at, words_put, KeepsArray}
 use Rattle.batch_code.proofs.Arrays.{words_same, array_is_kept}
 use Rattle.lane_rows.specs.Values.{numbers_in}
 use Rattle.batch_sim.specs.declared.judge.arrays.AccessNumbers.{AccessNumbers}
-use Rattle.batch_sim.specs.Arrays.{AreAccessNumbers, IsPassed, WasLost, TakesBack, PutsInside}
+use Rattle.batch_sim.specs.Arrays.{AreAccessNumbers, IsPassed, TriesArray, PassesArray, WasLost, TakesBack, PutsInside}
 
 module _ (rows : List (List ℕ)) (r : WordRead) (p : WordPut) (count : ℕ) (old new lost reads indexes values target : List ℕ) (passed : IsPassed old new lost reads indexes values target count)
     (index : IsAtomRow rows p.index count indexes) (value : IsAtomRow rows p.value count values) where
@@ -43,17 +43,14 @@ undone rows p count before words new lost indexes values index value long severa
     (λ t l. lost_read rows p count before lost (take count lost) indexes values index value (λ s m. get_or-take count lost s 0 m) (λ one. several (same ∙ one)) was t (omega (arith, l, long)))
 
 -- what is shown of an array that was passed over its numbers
-module _ (rows : List (List ℕ)) (r : WordRead) (p : WordPut) (count : ℕ) (a : AccessNumbers) (are : AreAccessNumbers rows count r p a) (old new lost : List ℕ) (reads : List ℕ)
-    (read : IsAtomRow rows r.index count reads)
-    (passed : IsPassed old new lost reads (numbers_in a.index) (numbers_in a.value) (numbers_in a.target) count) where
-  pub numbers_kept : KeepsArray rows count old r p
-  numbers_kept = passed_kept rows r p count old new lost reads (numbers_in a.index) (numbers_in a.value) (numbers_in a.target) passed are.index are.value read are.target
-
-  pub numbers_words : new ≡ words_put rows p old count
-  numbers_words = passed_words rows r p count old new lost reads (numbers_in a.index) (numbers_in a.value) (numbers_in a.target) passed are.index are.value
-
-  pub numbers_lost : WasLost rows p old lost count
-  numbers_lost = passed_lost rows r p count old new lost reads (numbers_in a.index) (numbers_in a.value) (numbers_in a.target) passed are.index are.value
+module _ (rows : List (List ℕ)) (r : WordRead) (p : WordPut) (count : ℕ) (a : AccessNumbers) (are : AreAccessNumbers rows count r p a) (old new lost reads : List ℕ) (read : IsAtomRow rows r.index count reads) where
+  pub numbers_passed : (result : Bool) → TriesArray result old new lost count reads (numbers_in a.index) (numbers_in a.value) (numbers_in a.target) → PassesArray rows r p count result old new lost
+  numbers_passed result tries = record {
+    kept = λ yes. passed_kept rows r p count old new lost reads (numbers_in a.index) (numbers_in a.value) (numbers_in a.target) (tries.passed yes) are.index are.value read are.target;
+    words = λ yes. passed_words rows r p count old new lost reads (numbers_in a.index) (numbers_in a.value) (numbers_in a.target) (tries.passed yes) are.index are.value;
+    lost = λ yes. passed_lost rows r p count old new lost reads (numbers_in a.index) (numbers_in a.value) (numbers_in a.target) (tries.passed yes) are.index are.value;
+    back = tries.back;
+  }
 
 -- where an array is read at the slot at which it is written
 pub read_there : (rows : List (List ℕ)) (r : WordRead) (p : WordPut) (count : ℕ) (a : AccessNumbers) → AreAccessNumbers rows count r p a → r.index ≡ p.index → IsAtomRow rows r.index count (numbers_in a.index)

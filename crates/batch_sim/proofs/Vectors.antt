@@ -7,7 +7,7 @@ use Rattle.std.proofs.lemmas.Bool.{cases_order}
 use Rattle.std.proofs.lemmas.Option.{slice_get_within, same_Some}
 use Rattle.lane_rows.specs.Values.{items_of}
 use Rattle.lane_rows.proofs.LaneRows.{placed, placed_other}
-use Rattle.batch_sim.specs.Arrays.{HaveLong}
+use Rattle.batch_sim.specs.Arrays.{HaveLong, OthersStay}
 
 pub length-items : (vs : List (Vec ℕ Global)) → length (items_of vs) ≡ length vs
 length-items vs = length-map vs (λ (v : Vec ℕ Global). v.items)
@@ -42,12 +42,14 @@ module _ (vs : List (Vec ℕ Global)) (k : ℕ) (new d : Vec ℕ Global) (l : k 
           let long' : length (slice_index_or (items_of (slice_set vs k new)) x []) ≡ length (slice_index_or (items_of vs) x []) = ap (λ (ws : List ℕ). length ws) (placed_other (λ (v : Vec ℕ Global). v.items) vs k x new (apart_of x h)) in
           omega (arith, long', long x (omega (arith, within, length-items vs, length-items (slice_set vs k new), length-set vs k new)))
 
-  pub same_on : new.items ≡ (slice_index_or vs k d).items → (x : ℕ) → slice_index_or (items_of (slice_set vs k new)) x [] ≡ slice_index_or (items_of vs) x []
-  same_on same x = at_x (cases_order x k)
-    where
-      at_x : (x ≡ k) ⊎ ((x < k) ⊎ (k < x)) → slice_index_or (items_of (slice_set vs k new)) x [] ≡ slice_index_or (items_of vs) x []
-      at_x (inl e) = subst (λ (n : ℕ). slice_index_or (items_of (slice_set vs k new)) n [] ≡ slice_index_or (items_of vs) n []) (sym e) (placed (λ (v : Vec ℕ Global). v.items) vs k new l ∙ same ∙ vec_at vs k d l)
-      at_x (inr h) = placed_other (λ (v : Vec ℕ Global). v.items) vs k x new (apart_of x h)
+-- where one of them is as before, and all others are, all are
+pub all_stay : (array : ℕ) (old new : List (List ℕ)) → slice_index_or new array [] ≡ slice_index_or old array [] → OthersStay array old new → (x : ℕ) → slice_index_or new x [] ≡ slice_index_or old x []
+all_stay array old new same others x = at_x (cases_order x array)
+  where
+    at_x : (x ≡ array) ⊎ ((x < array) ⊎ (array < x)) → slice_index_or new x [] ≡ slice_index_or old x []
+    at_x (inl e) = subst (λ (n : ℕ). slice_index_or new n [] ≡ slice_index_or old n []) (sym e) same
+    at_x (inr (inl l)) = others x (λ e. omega (arith, e, l))
+    at_x (inr (inr l)) = others x (λ e. omega (arith, e, l))
 
 -- one more of them is long
 pub long_more : (vs : List (Vec ℕ Global)) (k count : ℕ) (v : Vec ℕ Global) → slice_get vs k ≡ Some v → count ≤ length v.items → ((x : ℕ) → x < k → count ≤ length (slice_index_or (items_of vs) x [])) → (x : ℕ) → x < k + 1 → count ≤ length (slice_index_or (items_of vs) x [])

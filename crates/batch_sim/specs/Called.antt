@@ -1,7 +1,7 @@
 -- What a call for a batch of clocks is given and gives.
-use Rattle.std.specs.Prelude.{◌≡◌, ℕ, ◌*◌, ◌/◌, Bool, false, List, [], ◌∷◌, length, take, drop, slice_get, Some, Result, Err}
+use Rattle.std.specs.Prelude.{◌≡◌, ℕ, ◌*◌, ◌/◌, Bool, false, List, [], ◌∷◌, length, take, drop, slice_get, Some, Result, Err, All}
 use Rattle.wiring.specs.Netlist.{Netlist}
-use Rattle.wiring.specs.Snapshot.{Contents, Snapshot}
+use Rattle.wiring.specs.Snapshot.{Contents, Snapshot, Fit}
 use Rattle.wiring.specs.Clock.{Clock}
 use Rattle.wiring.specs.Runs.{Runs, RunStops}
 use Rattle.cycle_sim.specs.declared.ports.Out.{Out}
@@ -63,6 +63,18 @@ pub record BatchStops (m : Netlist) (clocks : List Clock) (from to : Contents) (
 abbrev pub IsStopOfRun : Netlist → List Clock → Contents → Result (Unit {0}) Stop → Type 0
 IsStopOfRun m clocks from result = (shots : List Snapshot) (x i : ℕ) →
     RunStops m from clocks shots x i → result ≡ Err (record { done = length shots; range = record { array = x; index = i } })
+
+-- the dins of each clock fit their ports
+abbrev pub FitPorts : Netlist → List Clock → Type 0
+FitPorts m clocks = All (λ (c : Clock). Fit (din_widths m) c.dins) clocks
+
+-- the clocks of a batch of a machine
+abbrev pub clocks_for : Machine → List Bool → List ℕ → List Clock
+clocks_for s enables dins = batch_clocks s.netlist enables dins
+
+-- a machine made all of the clocks
+abbrev pub MachineRan : (old new : Machine) → List Clock → List Out → Type 0
+MachineRan old new clocks outs = BatchRan old.netlist clocks old.contents new.contents outs
 
 -- a machine made the clocks up to a stop
 abbrev pub MachineStops : (old new : Machine) → List Clock → (before after : List Out) → Stop → Type 0

@@ -1,14 +1,14 @@
 -- Clocks of a batch, by what the ports are given.
-use Rattle.std.specs.Prelude.{◌≡◌, ℕ, ◌+◌, ◌*◌, ◌≤◌, List, length, All}
+use Rattle.std.specs.Prelude.{◌≡◌, ℕ, ◌+◌, ◌*◌, ◌≤◌, List, length, Result, OnOk, IfErr}
 use Rattle.wiring.specs.Netlist.{Netlist}
-use Rattle.wiring.specs.Snapshot.{Contents, Fit}
+use Rattle.wiring.specs.Snapshot.{Contents}
 use Rattle.wiring.specs.Clock.{Clock}
 use Rattle.cycle_sim.specs.declared.ports.Out.{Out}
-use Rattle.cycle_sim.specs.Ports.{din_widths}
+use Rattle.cycle_sim.specs.Simulated.{Machine}
 use Rattle.batch_sim.specs.declared.batches.Stop.{Stop}
 use Rattle.batch_guess.specs.declared.inputs.Inputs.{Inputs}
 use Rattle.batch_guess.specs.declared.inputs.Piece.{Piece}
-use Rattle.batch_sim.specs.Called.{din_count, output_count, batch_clocks, piece_of, Came, BatchStops}
+use Rattle.batch_sim.specs.Called.{din_count, output_count, batch_clocks, piece_of, FitPorts, Came, BatchStops}
 
 -- the clocks of a batch
 abbrev pub clocks_of : Netlist → Inputs → List Clock
@@ -20,7 +20,7 @@ clocks_in m p = piece_of m p.inputs.enables.now p.inputs.dins.now p.first p.coun
 
 -- each clock has all dins, and they fit their ports
 pub record AreInputsOf (m : Netlist) (i : Inputs) : Type 0 where
-  pub fit : All (λ (c : Clock). Fit (din_widths m) c.dins) (clocks_of m i)
+  pub fit : FitPorts m (clocks_of m i)
   pub all : length i.dins.now ≡ length i.enables.now * din_count m
 
 -- these are clocks of a batch for a netlist
@@ -47,6 +47,21 @@ abbrev pub PieceStops : Netlist → Piece → (mid to : Contents) → (old new :
 PieceStops m p mid to old new stop = (from : Contents) (before : List Out) →
     Came m (clocks_of m p.inputs) from mid before old p.first → BatchStops m (clocks_of m p.inputs) from to before new stop
 
--- a clock of a batch stops
-abbrev pub InputsStop : Netlist → Inputs → (from to : Contents) → (old new : List Out) → Stop → Type 0
-InputsStop m i from to old new stop = BatchStops m (clocks_of m i) from to old new stop
+-- The clocks of a piece can be made, with places for their outputs.
+pub record CanStep (m : Netlist) (p : Piece) (places : List Out) : Type 0 where
+  -- it is of a batch for the netlist
+  pub piece : IsPieceOf m p
+  -- each clock of the batch has places for its outputs
+  pub outs : HavePlaces m p.inputs places
+
+-- A machine over the clocks of a piece, as they were made one after another.
+pub record IsStepped (m now : Netlist) (p : Piece) (mid to : Contents) (old new : List Out) (result : Result (Unit {0}) Stop) : Type 0 where
+  -- its netlist is the same
+  pub netlist : now ≡ m
+  -- Ok: they took place
+  pub ok : OnOk result (PieceRan m p mid to old new)
+  -- Stop: one of them stops
+  pub stops : IfErr result (PieceStops m p mid to old new)
+
+abbrev pub StepsPiece : (before after : Machine) → Piece → (old new : List Out) → Result (Unit {0}) Stop → Type 0
+StepsPiece before after p old new result = IsStepped before.netlist after.netlist p before.contents after.contents old new result

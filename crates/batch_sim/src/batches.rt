@@ -1,12 +1,11 @@
 // Batches of clocks.
 
-ghost use Rattle.std.specs.Prelude.{◌≡◌, ℕ, Err, ◌*◌, length, All, IfOk, OnOk, IfErr, OnErr};
+ghost use Rattle.std.specs.Prelude.{◌≡◌, ℕ, Err, ◌*◌, length, IfOk, OnOk, IfErr, OnErr};
 ghost use Rattle.wiring.specs.Snapshot.{Snapshot, Fit, HasOneSnapshot, HasOneNext, HasPlaces, FitsContents};
-ghost use Rattle.wiring.specs.Clock.{Clock};
 ghost use Rattle.cycle_sim.specs.Ports.{din_widths, AreShown};
 ghost use Rattle.cycle_sim.specs.Filled.{filled_contents};
 ghost use Rattle.cycle_sim.specs.Simulated.{GoesOn, StopsIn, clock};
-ghost use Rattle.batch_sim.specs.Called.{din_count, output_count, batch_clocks, BatchRan, MachineStops, IsStopOfRun};
+ghost use Rattle.batch_sim.specs.Called.{din_count, output_count, clocks_for, FitPorts, IsStopOfRun, MachineRan, MachineStops};
 
 use crate::pause::Pause;
 use crate::rows::Rows;
@@ -60,7 +59,8 @@ impl Batches {
     /// A simulator of a module, with these contents at power-up. No later call takes memory.
     pub fn new(alloc: Global, module: &Module, fill: Fill) -> Result<Batches, OutOfMemory>
         ensures netlist { IfOk result (λ b. b.netlist ≡ «module».now.netlist) }
-        ensures contents { IfOk result (λ b. b.contents ≡ filled_contents fill «module».now.netlist) }
+        ensures contents { IfOk result
+            (λ b. b.contents ≡ filled_contents fill «module».now.netlist) }
     {
         let dins = count_dins(module);
         let rows = rows_of(alloc, module, dins)?;
@@ -106,9 +106,12 @@ impl Batches {
         requires dins { Fit (din_widths self.old.netlist) dins.now }
         requires outs { length self.old.netlist.outputs ≡ 2 * length outs.old }
         ensures netlist { self.new.netlist ≡ self.old.netlist }
-        ensures ok { OnOk result ((s : Snapshot) × GoesOn self.old (clock reset enable dins.now) s self.new × AreShown s outs.new) }
-        ensures stops { IfErr result (λ r. StopsIn self.old (clock reset enable dins.now) r.array r.index) }
-        ensures only { (x i : ℕ) → StopsIn self.old (clock reset enable dins.now) x i → result ≡ Err (record { array = x; index = i }) }
+        ensures ok { OnOk result ((s : Snapshot)
+            × GoesOn self.old (clock reset enable dins.now) s self.new × AreShown s outs.new) }
+        ensures stops { IfErr result
+            (λ r. StopsIn self.old (clock reset enable dins.now) r.array r.index) }
+        ensures only { (x i : ℕ) → StopsIn self.old (clock reset enable dins.now) x i
+            → result ≡ Err (record { array = x; index = i }) }
         ensures err { OnErr result (self.new ≡ self.old) }
         ensures outs { OnErr result (outs.new ≡ outs.old) }
     {
@@ -124,13 +127,16 @@ impl Batches {
         dins: &[u64],
         outs: &mut [Out],
     ) -> Result<(), Stop>
-        requires dins { All (λ (c : Clock). Fit (din_widths self.old.netlist) c.dins) (batch_clocks self.old.netlist enables.now dins.now) }
+        requires dins { FitPorts self.old.netlist (clocks_for self.old enables.now dins.now) }
         requires all { length dins.now ≡ length enables.now * din_count self.old.netlist }
         requires outs { length outs.old ≡ length enables.now * output_count self.old.netlist }
         ensures netlist { self.new.netlist ≡ self.old.netlist }
-        ensures ok { OnOk result (BatchRan self.old.netlist (batch_clocks self.old.netlist enables.now dins.now) self.old.contents self.new.contents outs.new) }
-        ensures stops { IfErr result (MachineStops self.old self.new (batch_clocks self.old.netlist enables.now dins.now) outs.old outs.new) }
-        ensures only { IsStopOfRun self.old.netlist (batch_clocks self.old.netlist enables.now dins.now) self.old.contents result }
+        ensures ok { OnOk result
+            (MachineRan self.old self.new (clocks_for self.old enables.now dins.now) outs.new) }
+        ensures stops { IfErr result (MachineStops self.old self.new
+            (clocks_for self.old enables.now dins.now) outs.old outs.new) }
+        ensures only { IsStopOfRun self.old.netlist (clocks_for self.old enables.now dins.now)
+            self.old.contents result }
     {
         self.law();
         one_run_law();

@@ -1,8 +1,8 @@
 // Clocks of a batch, one by one.
 
-ghost use Rattle.std.specs.Prelude.{◌≡◌, OnOk, IfErr};
+ghost use Rattle.std.specs.Prelude.{◌≡◌};
 ghost use Rattle.batch_sim.specs.Called.{din_count};
-ghost use Rattle.batch_sim.specs.Pieces.{IsPieceOf, HavePlaces, PieceRan, PieceStops};
+ghost use Rattle.batch_sim.specs.Pieces.{CanStep, StepsPiece};
 
 use crate::batches::Stop;
 use batch_guess::Piece;
@@ -16,11 +16,8 @@ pub fn step_each(
     outs: &mut [Out],
 ) -> Result<(), Stop>
     requires ports { ports ≡ din_count sim.old.netlist }
-    requires piece { IsPieceOf sim.old.netlist piece.now }
-    requires outs { HavePlaces sim.old.netlist piece.now.inputs outs.old }
-    ensures netlist { sim.new.netlist ≡ sim.old.netlist }
-    ensures ok { OnOk result (PieceRan sim.old.netlist piece.now sim.old.contents sim.new.contents outs.old outs.new) }
-    ensures stops { IfErr result (PieceStops sim.old.netlist piece.now sim.old.contents sim.new.contents outs.old outs.new) }
+    requires step { CanStep sim.old.netlist piece.now outs.old }
+    ensures { StepsPiece sim.old sim.new piece.now outs.old outs.new result }
 {
     let count = sim.outputs();
     let inputs = piece.inputs;

@@ -1,11 +1,8 @@
 // Whether rows keep the equations of their code.
 
-ghost use Rattle.std.specs.Prelude.{◌≡◌, ◌≤◌, length, IsTrue, IsFalse};
-ghost use Rattle.lane_rows.specs.Values.{row_values, values_of, items_of};
-ghost use Rattle.batch_sim.specs.Arrays.{IsPassRoom, HaveLong};
-ghost use Rattle.batch_sim.specs.Checked.{AreInputRows, AreRegisterRows};
-ghost use Rattle.batch_sim.specs.Engine.{AreWide, IsJudged};
-ghost use Rattle.batch_sim.specs.Stored.{contents_in};
+ghost use Rattle.std.specs.Prelude.{◌≡◌, ◌≤◌, length, IsTrue};
+ghost use Rattle.lane_rows.specs.Values.{values_of};
+ghost use Rattle.batch_sim.specs.Engine.{AreRight, AreWide, CanJudge, JudgesRows};
 ghost use Rattle.batch_sim.specs.Pieces.{HasDins};
 
 pub mod arrays;
@@ -34,8 +31,7 @@ fn are_right(
     requires regs { length regs.now ≡ length engine.now.code.nexts.items }
     requires dins { HasDins engine.now.ports piece.now }
     ensures spare { length spare.new.items ≡ length spare.old.items }
-    ensures given { IsTrue result → AreInputRows engine.now.has_enable engine.now.ports piece.now engine.now.code.first_output (values_of rows.now) }
-    ensures kept { IsTrue result → AreRegisterRows (values_of rows.now) piece.now.count engine.now.code.first_reg regs.now engine.now.code.nexts.items }
+    ensures right { IsTrue result → AreRight engine.now (values_of rows.now) piece.now regs.now }
 {
     let code = &engine.code;
     if !are_given(
@@ -60,17 +56,10 @@ pub fn judge(
     stored: &mut Stored,
     piece: &Piece<'_>,
 ) -> bool
-    requires wide { AreWide engine.now (values_of rows.now) piece.now.count }
+    requires rows { CanJudge engine.now (values_of rows.now) room.old lost.old.items stored.old
+        piece.now }
     requires slots { length (values_of rows.now) ≡ length rows.now }
-    requires room { IsPassRoom room.old piece.now.count }
-    requires losts { length lost.old.items ≡ length stored.old.arrays.items }
-    requires lost { HaveLong (items_of lost.old.items) piece.now.count }
-    requires regs { length stored.old.regs.items ≡ length engine.now.code.nexts.items }
-    requires reads { length engine.now.code.reads.items ≡ length stored.old.arrays.items }
-    requires puts { length engine.now.code.puts.items ≡ length stored.old.arrays.items }
-    requires dins { HasDins engine.now.ports piece.now }
-    ensures yes { IsTrue result → IsJudged engine.now (values_of rows.now) piece.now stored.old stored.new }
-    ensures back { IsFalse result → contents_in stored.new ≡ contents_in stored.old }
+    ensures { JudgesRows engine.now (values_of rows.now) piece.now stored.old stored.new result }
 {
     if !are_right(engine, rows, &mut room.to, &stored.regs, piece) {
         return false;

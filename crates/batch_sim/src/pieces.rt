@@ -1,12 +1,9 @@
 // Batches of any length, piece by piece.
 
-ghost use Rattle.std.specs.Prelude.{◌≡◌, ◌≤◌, OnOk, IfErr, IfSome, IsTrue, IsFalse};
-ghost use Rattle.wiring.specs.Rules.{KeepsRules};
-ghost use Rattle.wiring.specs.Snapshot.{FitsContents};
-ghost use Rattle.batch_sim.specs.Engine.{AreRowsOf};
-ghost use Rattle.batch_sim.specs.Called.{din_count, BatchRan};
-ghost use Rattle.batch_sim.specs.Stored.{contents_in};
-ghost use Rattle.batch_sim.specs.Pieces.{clocks_of, InputsStop, AreInputsOf, IsPieceOf, HavePlaces, PieceRan, PieceStops};
+ghost use Rattle.std.specs.Prelude.{◌≡◌, ◌≤◌, OnOk, IfErr, IfSome};
+ghost use Rattle.batch_sim.specs.Engine.{AreRowsOf, CanTry, TriesPiece};
+ghost use Rattle.batch_sim.specs.Called.{MachineRan, MachineStops};
+ghost use Rattle.batch_sim.specs.Pieces.{clocks_of, AreInputsOf, CanStep, HavePlaces, StepsPiece};
 
 use crate::batches::{Batches, Stop};
 use crate::pause::Pause;
@@ -31,16 +28,12 @@ fn by_rows(
     piece: &Piece<'_>,
     outs: &mut [Out],
 ) -> bool
-    requires rules { KeepsRules sim.now.netlist }
+    requires piece { CanTry sim.now.netlist stored.old piece.now }
     requires rows { IfSome rows.old (AreRowsOf sim.now.netlist) }
-    requires fits { FitsContents sim.now.netlist (contents_in stored.old) }
-    requires piece { IsPieceOf sim.now.netlist piece.now }
     requires outs { HavePlaces sim.now.netlist piece.now.inputs outs.old }
     ensures rows { IfSome rows.new (AreRowsOf sim.now.netlist) }
-    ensures fits { FitsContents sim.now.netlist (contents_in stored.new) }
-    ensures ran { IsTrue result → PieceRan sim.now.netlist piece.now (contents_in stored.old) (contents_in stored.new) outs.old outs.new }
-    ensures back { IsFalse result → contents_in stored.new ≡ contents_in stored.old }
-    ensures outs { IsFalse result → outs.new ≡ outs.old }
+    ensures tries { TriesPiece sim.now.netlist piece.now stored.old stored.new outs.old outs.new
+        result }
 {
     if piece.count < LEAST {
         return false;
@@ -72,11 +65,8 @@ fn size_of(rows: &Option<Rows>) -> usize
 impl Batches {
     // The clocks of a piece, over rows or one by one.
     fn step_piece(&mut self, piece: &Piece<'_>, outs: &mut [Out]) -> Result<(), Stop>
-        requires piece { IsPieceOf self.old.netlist piece.now }
-        requires outs { HavePlaces self.old.netlist piece.now.inputs outs.old }
-        ensures netlist { self.new.netlist ≡ self.old.netlist }
-        ensures ok { OnOk result (PieceRan self.old.netlist piece.now self.old.contents self.new.contents outs.old outs.new) }
-        ensures stops { IfErr result (PieceStops self.old.netlist piece.now self.old.contents self.new.contents outs.old outs.new) }
+        requires { CanStep self.old.netlist piece.now outs.old }
+        ensures { StepsPiece self.old self.new piece.now outs.old outs.new result }
     {
         if by_rows(
             &self.sim,
@@ -104,8 +94,10 @@ impl Batches {
         requires inputs { AreInputsOf self.old.netlist inputs.now }
         requires outs { HavePlaces self.old.netlist inputs.now outs.old }
         ensures netlist { self.new.netlist ≡ self.old.netlist }
-        ensures ok { OnOk result (BatchRan self.old.netlist (clocks_of self.old.netlist inputs.now) self.old.contents self.new.contents outs.new) }
-        ensures stops { IfErr result (InputsStop self.old.netlist inputs.now self.old.contents self.new.contents outs.old outs.new) }
+        ensures ok { OnOk result
+            (MachineRan self.old self.new (clocks_of self.old.netlist inputs.now) outs.new) }
+        ensures stops { IfErr result (MachineStops self.old self.new
+            (clocks_of self.old.netlist inputs.now) outs.old outs.new) }
     {
         let count = inputs.enables.len();
         let size = self.most_clocks();

@@ -1,15 +1,11 @@
 // Pieces of a batch over whole rows.
 
-ghost use Rattle.std.specs.Prelude.{◌≡◌, ℕ, ◌+◌, ◌*◌, ◌<◌, ◌≤◌, [], length, slice_index_or, IsTrue, IsFalse};
-ghost use Rattle.wiring.specs.Rules.{KeepsRules};
-ghost use Rattle.wiring.specs.Snapshot.{FitsContents};
+ghost use Rattle.std.specs.Prelude.{◌≡◌, ◌+◌, ◌*◌, ◌<◌, length, IsTrue};
 ghost use Rattle.lane_rows.specs.Values.{items_of, values_of};
-ghost use Rattle.batch_sim.specs.Arrays.{IsPassRoom, HaveLong};
-ghost use Rattle.batch_sim.specs.Stored.{contents_in};
-ghost use Rattle.batch_sim.specs.Called.{of_clock};
-ghost use Rattle.batch_sim.specs.Engine.{AreRowsOf, AreWide, IsJudged, RanOver};
-ghost use Rattle.batch_sim.specs.Pieces.{IsPieceOf, HasDins, HavePlaces, PieceRan};
-ghost use Rattle.batch_sim.specs.Shown.{AreRowOuts};
+ghost use Rattle.batch_sim.specs.Arrays.{HaveLong};
+ghost use Rattle.batch_sim.specs.Engine.{AreRowsOf, CanJudge, CanTry, HasRoomFor, JudgesRows, TriesPiece, TriesRows};
+ghost use Rattle.batch_sim.specs.Pieces.{HavePlaces};
+ghost use Rattle.batch_sim.specs.Shown.{AreShownIn, CanShowAll};
 
 pub mod make;
 pub mod shown;
@@ -45,10 +41,7 @@ fn are_long(lists: &[Vec<u64>], count: usize) -> bool
 
 // Whether there is room for this many clocks of this many arrays.
 fn has_room(rows: &Rows, arrays: usize, count: usize) -> bool
-    ensures most { IsTrue result → count ≤ rows.now.size }
-    ensures room { IsTrue result → IsPassRoom rows.now.room count }
-    ensures losts { IsTrue result → length rows.now.lost.items ≡ arrays }
-    ensures lost { IsTrue result → HaveLong (items_of rows.now.lost.items) count }
+    ensures { IsTrue result → HasRoomFor rows.now arrays count }
 {
     if rows.size < count {
         return false;
@@ -82,33 +75,22 @@ fn judge_guess(
     stored: &mut Stored,
     piece: &Piece<'_>,
 ) -> bool
-    requires wide { AreWide guess.now.engine (values_of guess.now.rows) piece.now.count }
-    requires room { IsPassRoom room.old piece.now.count }
-    requires losts { length lost.old.items ≡ length stored.old.arrays.items }
-    requires lost { HaveLong (items_of lost.old.items) piece.now.count }
-    requires regs { length stored.old.regs.items ≡ length guess.now.engine.code.nexts.items }
-    requires reads { length guess.now.engine.code.reads.items ≡ length stored.old.arrays.items }
-    requires puts { length guess.now.engine.code.puts.items ≡ length stored.old.arrays.items }
-    requires dins { HasDins guess.now.engine.ports piece.now }
-    ensures yes { IsTrue result → IsJudged guess.now.engine (values_of guess.now.rows) piece.now stored.old stored.new }
-    ensures back { IsFalse result → contents_in stored.new ≡ contents_in stored.old }
+    requires { CanJudge guess.now.engine (values_of guess.now.rows) room.old lost.old.items
+        stored.old piece.now }
+    ensures { JudgesRows guess.now.engine (values_of guess.now.rows) piece.now stored.old stored.new
+        result }
 {
     judge(guess.engine(), guess.rows(), room, lost, stored, piece)
 }
 
 // The rows are judged, after all instructions.
 fn judge_rows(sim: &Sim, rows: &mut Rows, stored: &mut Stored, piece: &Piece<'_>) -> bool
-    requires rules { KeepsRules sim.now.netlist }
+    requires piece { CanTry sim.now.netlist stored.old piece.now }
     requires rows { AreRowsOf sim.now.netlist rows.old }
     requires all { rows.old.guess.done ≡ length rows.old.guess.engine.code.instructions.items }
-    requires fits { FitsContents sim.now.netlist (contents_in stored.old) }
-    requires piece { IsPieceOf sim.now.netlist piece.now }
     ensures guess { rows.new.guess ≡ rows.old.guess }
     ensures size { rows.new.size ≡ rows.old.size }
-    ensures most { IsTrue result → piece.now.count ≤ rows.old.size }
-    ensures fits { FitsContents sim.now.netlist (contents_in stored.new) }
-    ensures ran { IsTrue result → RanOver sim.now.netlist piece.now stored.old stored.new rows.old }
-    ensures back { IsFalse result → contents_in stored.new ≡ contents_in stored.old }
+    ensures tries { TriesRows sim.now.netlist piece.now stored.old stored.new rows.old result }
 {
     if !has_room(rows, stored.arrays.len(), piece.count) {
         return false;
@@ -120,15 +102,10 @@ fn judge_rows(sim: &Sim, rows: &mut Rows, stored: &mut Stored, piece: &Piece<'_>
 // The clocks of a piece, over rows.
 #[tactic(auto, using(crate::proofs::Judged::rows_as))]
 fn run_piece(sim: &Sim, rows: &mut Rows, stored: &mut Stored, piece: &Piece<'_>) -> bool
-    requires rules { KeepsRules sim.now.netlist }
+    requires piece { CanTry sim.now.netlist stored.old piece.now }
     requires rows { AreRowsOf sim.now.netlist rows.old }
-    requires fits { FitsContents sim.now.netlist (contents_in stored.old) }
-    requires piece { IsPieceOf sim.now.netlist piece.now }
     ensures rows { AreRowsOf sim.now.netlist rows.new }
-    ensures most { IsTrue result → piece.now.count ≤ rows.new.size }
-    ensures fits { FitsContents sim.now.netlist (contents_in stored.new) }
-    ensures ran { IsTrue result → RanOver sim.now.netlist piece.now stored.old stored.new rows.new }
-    ensures back { IsFalse result → contents_in stored.new ≡ contents_in stored.old }
+    ensures tries { TriesRows sim.now.netlist piece.now stored.old stored.new rows.new result }
 {
     if !rows.guess.guess(stored, piece) {
         return false;
@@ -138,10 +115,9 @@ fn run_piece(sim: &Sim, rows: &mut Rows, stored: &mut Stored, piece: &Piece<'_>)
 
 // The outputs of guessed rows in these clocks, this many a clock.
 fn show_guess(guess: &RowGuess, count: usize, outs: &mut [Out], clocks: usize)
-    requires outs { length outs.old ≡ clocks * count }
-    requires slots { guess.now.engine.code.first_output + 2 * count ≤ length guess.now.rows }
-    requires long { (n : ℕ) → n < length guess.now.rows → clocks < length (slice_index_or (values_of guess.now.rows) n []) }
-    ensures { (t : ℕ) → t < clocks → AreRowOuts (values_of guess.now.rows) guess.now.engine.code.first_output t count (of_clock count t outs.new) }
+    requires { CanShowAll guess.now.rows guess.now.engine.code.first_output count clocks outs.old }
+    ensures { AreShownIn (values_of guess.now.rows) guess.now.engine.code.first_output count clocks
+        outs.new }
 {
     let engine = guess.engine();
     show_rows(guess.rows(), engine.code.first_output, count, outs, clocks);
@@ -156,16 +132,12 @@ pub fn rows_batch(
     piece: &Piece<'_>,
     outs: &mut [Out],
 ) -> bool
-    requires rules { KeepsRules sim.now.netlist }
+    requires piece { CanTry sim.now.netlist stored.old piece.now }
     requires rows { AreRowsOf sim.now.netlist rows.old }
-    requires fits { FitsContents sim.now.netlist (contents_in stored.old) }
-    requires piece { IsPieceOf sim.now.netlist piece.now }
     requires outs { HavePlaces sim.now.netlist piece.now.inputs outs.old }
     ensures rows { AreRowsOf sim.now.netlist rows.new }
-    ensures fits { FitsContents sim.now.netlist (contents_in stored.new) }
-    ensures ran { IsTrue result → PieceRan sim.now.netlist piece.now (contents_in stored.old) (contents_in stored.new) outs.old outs.new }
-    ensures back { IsFalse result → contents_in stored.new ≡ contents_in stored.old }
-    ensures outs { IsFalse result → outs.new ≡ outs.old }
+    ensures tries { TriesPiece sim.now.netlist piece.now stored.old stored.new outs.old outs.new
+        result }
 {
     if !run_piece(sim, rows, stored, piece) {
         return false;

@@ -1,6 +1,6 @@
 // The contents of registers and arrays, outside of a simulator.
 
-ghost use Rattle.std.specs.Prelude.{◌≡◌, ℕ, ◌*◌, Err, length, map, replicate, IfOk, OnOk, IfErr, OnErr};
+ghost use Rattle.std.specs.Prelude.{◌≡◌, ℕ, Err, ◌*◌, length, map, replicate, IfOk};
 ghost use Rattle.wiring.specs.declared.netlist.Shape.{Shape};
 ghost use Rattle.wiring.specs.Netlist.{netlist_of};
 ghost use Rattle.wiring.specs.Snapshot.{Fit, FitsContents};
@@ -8,8 +8,8 @@ ghost use Rattle.cycle_sim.specs.Ports.{din_widths};
 ghost use Rattle.cycle_sim.specs.Slots.{words_of};
 ghost use Rattle.cycle_sim.specs.Simulated.{clock};
 ghost use Rattle.batch_sim.specs.Called.{din_count};
-ghost use Rattle.batch_sim.specs.Stored.{contents_in, StoredGoesOn, StoredStops};
-ghost use Rattle.batch_sim.specs.Pieces.{IsPieceOf, HavePlaces, PieceRan, PieceStops};
+ghost use Rattle.batch_sim.specs.Stored.{contents_in, StepsStored, StoredStops};
+ghost use Rattle.batch_sim.specs.Pieces.{CanStep, IsStepped};
 
 use crate::batches::Stop;
 use crate::each::step_each;
@@ -27,7 +27,8 @@ fn zero_slots(alloc: Global, widths: &[Width]) -> Result<Vec<u64>, AllocError>
 }
 
 fn zero_arrays(alloc: Global, shapes: &[Shape]) -> Result<Vec<Vec<u64>>, AllocError>
-    ensures { IfOk result (λ v. words_of v.items ≡ map (λ (s : Shape). replicate s.depth 0) shapes.now) }
+    ensures { IfOk result
+        (λ v. words_of v.items ≡ map (λ (s : Shape). replicate s.depth 0) shapes.now) }
 {
     let mut arrays = Vec::new(alloc);
     for shape in shapes {
@@ -58,13 +59,11 @@ pub fn step_stored(
     requires fits { FitsContents sim.old.netlist (contents_in stored.old) }
     requires dins { Fit (din_widths sim.old.netlist) dins.now }
     requires outs { length sim.old.netlist.outputs ≡ 2 * length outs.old }
-    ensures netlist { sim.new.netlist ≡ sim.old.netlist }
-    ensures fits { FitsContents sim.old.netlist (contents_in stored.new) }
-    ensures ok { OnOk result (StoredGoesOn sim.old.netlist stored.old stored.new (clock reset enable dins.now) outs.new) }
-    ensures stops { IfErr result (λ r. StoredStops sim.old.netlist stored.old (clock reset enable dins.now) r.array r.index) }
-    ensures only { (x i : ℕ) → StoredStops sim.old.netlist stored.old (clock reset enable dins.now) x i → result ≡ Err (record { array = x; index = i }) }
-    ensures err { OnErr result (contents_in stored.new ≡ contents_in stored.old) }
-    ensures outs { OnErr result (outs.new ≡ outs.old) }
+    ensures steps { StepsStored sim.old.netlist sim.new.netlist stored.old stored.new
+        (clock reset enable dins.now) outs.old outs.new result }
+    ensures only { (x i : ℕ)
+        → StoredStops sim.old.netlist stored.old (clock reset enable dins.now) x i
+        → result ≡ Err (record { array = x; index = i }) }
 {
     sim.law();
     sim.exchange(&mut stored.regs, &mut stored.arrays);
@@ -84,12 +83,10 @@ pub fn each_stored(
 ) -> Result<(), Stop>
     requires fits { FitsContents sim.old.netlist (contents_in stored.old) }
     requires ports { ports ≡ din_count sim.old.netlist }
-    requires piece { IsPieceOf sim.old.netlist piece.now }
-    requires outs { HavePlaces sim.old.netlist piece.now.inputs outs.old }
-    ensures netlist { sim.new.netlist ≡ sim.old.netlist }
+    requires step { CanStep sim.old.netlist piece.now outs.old }
     ensures fits { FitsContents sim.old.netlist (contents_in stored.new) }
-    ensures ok { OnOk result (PieceRan sim.old.netlist piece.now (contents_in stored.old) (contents_in stored.new) outs.old outs.new) }
-    ensures stops { IfErr result (PieceStops sim.old.netlist piece.now (contents_in stored.old) (contents_in stored.new) outs.old outs.new) }
+    ensures steps { IsStepped sim.old.netlist sim.new.netlist piece.now (contents_in stored.old)
+        (contents_in stored.new) outs.old outs.new result }
 {
     sim.law();
     sim.exchange(&mut stored.regs, &mut stored.arrays);

@@ -2,6 +2,7 @@
 use Rattle.std.specs.Prelude.{◌≡◌, ℕ, ◌^◌, ◌<◌, List, [], ◌∷◌, length, slice_index, slice_set, slice_get, Some, All}
 use Rattle.std.specs.List.{AllZip}
 use Rattle.wiring.specs.declared.netlist.Assign.{Assign}
+use Rattle.wiring.specs.declared.right.Right.{Right}
 use Rattle.wiring.specs.Netlist.{Netlist}
 use Rattle.wiring.specs.Rights.{right_value, constants_of}
 use Rattle.wiring.specs.Rules.{WidthsAgree, DivisorIsConstant}
@@ -9,8 +10,23 @@ use Rattle.wiring.specs.Sizes.{IsConstant}
 use Rattle.cycle_sim.specs.declared.settle.Instruction.{Instruction}
 use Rattle.cycle_sim.specs.Slots.{word_at, IsNarrow, slot, rename}
 
+-- what a right side over slots is worth
+abbrev pub slots_value : List ℕ → List (List ℕ) → List ℕ → Right ℕ ℕ → ℕ
+slots_value widths arrays values r = right_value (λ n. slice_index widths n) (word_at arrays) (λ n. slice_index values n) r
+
 abbrev pub instruction_value : List ℕ → List (List ℕ) → List ℕ → Instruction → ℕ
-instruction_value widths arrays values i = right_value (λ n. slice_index widths n) (word_at arrays) (λ n. slice_index values n) i.right
+instruction_value widths arrays values i = slots_value widths arrays values i.right
+
+-- A right side over slots whose value can be computed.
+pub record CanEvaluate (widths : List ℕ) (arrays : List (List ℕ)) (values : List ℕ) (r : Right ℕ ℕ) : Type 0 where
+  -- the widths of its operands agree
+  pub agree : WidthsAgree (λ n. slice_index widths n) (λ (_ : ℕ). 0) r
+  -- a divisor is a constant
+  pub divisor : DivisorIsConstant r
+  -- the operands whose widths matter have at most 64 bits
+  pub narrow : IsNarrow (λ n. slice_index widths n) r
+  -- its value has at most 64 bits
+  pub fits : slots_value widths arrays values r < 2 ^ 64
 
 abbrev pub run_code : List ℕ → List (List ℕ) → List Instruction → List ℕ → List ℕ
 run_code widths arrays [] values = values

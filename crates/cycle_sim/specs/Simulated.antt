@@ -1,12 +1,15 @@
 -- A netlist in a simulator.
-use Rattle.std.specs.Prelude.{◌≡◌, ℕ, ◌+◌, Bool, List, length, take, drop, map}
+use Rattle.std.specs.Prelude.{◌≡◌, ℕ, ◌+◌, Bool, List, length, take, drop, map, Result, Err, IfOk, IfErr, OnErr}
 use Rattle.wiring.specs.Netlist.{Netlist}
-use Rattle.wiring.specs.Snapshot.{Contents, Snapshot, accesses}
+use Rattle.wiring.specs.Snapshot.{Contents, Snapshot, HasOneSnapshot, HasOneNext, HasPlaces, FitsContents, accesses}
 use Rattle.wiring.specs.Clock.{Clock, given, Steps, Stops}
 use Rattle.wiring.specs.Order.{IsEvaluationOrder}
 use Rattle.wiring.specs.Rules.{KeepsRules}
 use Rattle.cycle_sim.specs.declared.machine.Program.{Program}
 use Rattle.cycle_sim.specs.declared.build.Layout.{Layout}
+use Rattle.cycle_sim.specs.declared.edge.IndexRange.{IndexRange}
+use Rattle.cycle_sim.specs.declared.ports.Out.{Out}
+use Rattle.cycle_sim.specs.Ports.{IsShown}
 use Rattle.cycle_sim.specs.Slots.{all_values, all_widths}
 use Rattle.cycle_sim.specs.Code.{IsCode}
 use Rattle.cycle_sim.specs.Edge.{access, edge}
@@ -51,6 +54,13 @@ pub record IsLayout (m : Netlist) (l : Layout) : Type 0 where
   pub first_reg : l.first_reg ≡ length m.inputs + length m.outputs + length m.wires
   pub slots : l.slots ≡ length m.inputs + length m.outputs + length m.wires + length m.regs
 
+-- A netlist that keeps the rules, and where its nets begin.
+pub record IsLaidOut (m : Netlist) (l : Layout) : Type 0 where
+  -- the nets of each sort begin there
+  pub layout : IsLayout m l
+  -- it keeps them
+  pub rules : KeepsRules m
+
 -- the program is the netlist's
 pub record IsProgram (m : Netlist) (order : List ℕ) (p : Program) : Type 0 where
   pub code : IsCode m order p.code.items
@@ -75,3 +85,27 @@ pub record IsCircuit (m : Netlist) (order : List ℕ) (p : Program) (slots room 
 -- contents with these registers and words
 abbrev pub held_contents : List ℕ → List (List ℕ) → Contents
 held_contents regs words = record { regs = regs; arrays = words }
+
+-- A netlist whose clocks are determined from these contents.
+pub record IsDetermined (m : Netlist) (h : Contents) : Type 0 where
+  -- contents and inputs have one valuation
+  pub one_valuation : HasOneSnapshot m
+  -- and one next contents
+  pub one_next : HasOneNext m
+  -- these are of its registers and arrays
+  pub places : HasPlaces m h
+  -- and fit them
+  pub fit : FitsContents m h
+
+-- One clock of a machine, with what an output shows before its edge.
+pub record ShowsOutput (old new : Machine) (c : Clock) (output : ℕ) (result : Result Out IndexRange) : Type 0 where
+  -- the netlist is the same
+  pub netlist : new.netlist ≡ old.netlist
+  -- Ok: the clock took place, and this is what the output shows
+  pub ok : IfOk result (λ out. (s : Snapshot) × GoesOn old c s new × IsShown s output out)
+  -- an index: the clock stops with it
+  pub stops : IfErr result (λ r. StopsIn old c r.array r.index)
+  -- where it stops, this index is answered and no other
+  pub only : (x i : ℕ) → StopsIn old c x i → result ≡ Err (record { array = x; index = i })
+  -- an index: the machine is as before
+  pub err : OnErr result (new ≡ old)

@@ -1,11 +1,11 @@
 // A program of a netlist.
-ghost use Rattle.std.specs.Prelude.{◌≡◌, ℕ, ◌+◌, ◌<◌, ◌≤◌, ◌^◌, ◌++◌, [], ◌∷◌, length, map, All, IfOk, OnOk, vec_len};
+ghost use Rattle.std.specs.Prelude.{◌≡◌, ◌+◌, ◌<◌, ◌^◌, ◌++◌, [], ◌∷◌, length, map, All, IfOk, OnOk};
 ghost use Rattle.cycle_sim.specs.declared.settle.Instruction.{Instruction};
 ghost use Rattle.wiring.specs.Rights.{atom_nets, nets_of};
 ghost use Rattle.wiring.specs.Netlist.{Netlist as TheNetlist, netlist_of, IsDeclared};
 ghost use Rattle.wiring.specs.Snapshot.{accesses, accesses_of, update_accesses};
 ghost use Rattle.cycle_sim.specs.Slots.{slot, rename, rename_atom, all_widths};
-ghost use Rattle.cycle_sim.specs.Simulated.{IsLayout, IsProgram};
+ghost use Rattle.cycle_sim.specs.Simulated.{IsLaidOut, IsLayout, IsProgram};
 ghost use Rattle.wiring.specs.Rules.{KeepsRules, UpdateIsSound};
 ghost use Rattle.cycle_sim.specs.Code.{instruction, IsInstructionAt, IsCode};
 ghost use Rattle.cycle_sim.specs.Edge.{edge, access, assign_accesses_of};
@@ -39,7 +39,8 @@ pub fn slot_of(layout: Layout, net: Net) -> usize
 
 /// An atom over slots.
 pub fn atom_of(layout: Layout, a: Atom<Net>) -> Atom<usize>
-    ensures { (m : TheNetlist) → IsLayout m layout → All (IsDeclared m) (atom_nets a) → result ≡ rename_atom (slot m) a }
+    ensures { (m : TheNetlist) → IsLayout m layout → All (IsDeclared m) (atom_nets a)
+        → result ≡ rename_atom (slot m) a }
 {
     match a {
         Atom::Net(n) => Atom::Net(slot_of(layout, n)),
@@ -49,7 +50,8 @@ pub fn atom_of(layout: Layout, a: Atom<Net>) -> Atom<usize>
 
 /// A right side over slots.
 pub fn right_of(layout: Layout, r: Right<Net, usize>) -> Right<usize, usize>
-    ensures { (m : TheNetlist) → IsLayout m layout → All (IsDeclared m) (nets_of r) → result ≡ rename (slot m) r }
+    ensures { (m : TheNetlist) → IsLayout m layout → All (IsDeclared m) (nets_of r)
+        → result ≡ rename (slot m) r }
 {
     match r {
         Right::Copy(a) => Right::Copy(atom_of(layout, a)),
@@ -67,7 +69,8 @@ pub fn right_of(layout: Layout, r: Right<Net, usize>) -> Right<usize, usize>
 }
 
 pub fn instruction_of(layout: Layout, a: &Assign) -> Instruction
-    ensures { (m : TheNetlist) → IsLayout m layout → IsDeclared m a.now.target → All (IsDeclared m) (nets_of a.now.right) → result ≡ instruction m a.now }
+    ensures { (m : TheNetlist) → IsLayout m layout → IsDeclared m a.now.target
+        → All (IsDeclared m) (nets_of a.now.right) → result ≡ instruction m a.now }
 {
     let target = slot_of(layout, a.target);
     let right = right_of(layout, a.right);
@@ -85,8 +88,7 @@ pub fn edge_of(layout: Layout, u: &Update) -> Edge
 
 // The instruction of the assign of this number.
 fn instruction_at(layout: Layout, wiring: &Netlist, number: usize) -> Instruction
-    requires layout { IsLayout (netlist_of wiring.now) layout }
-    requires rules { KeepsRules (netlist_of wiring.now) }
+    requires laid { IsLaidOut (netlist_of wiring.now) layout }
     requires within { number < length wiring.now.assigns.items }
     ensures { IsInstructionAt (netlist_of wiring.now) number result }
 {
@@ -99,7 +101,8 @@ fn add_instruction(
     target: usize,
     right: Right<usize, usize>,
 ) -> Result<(), AllocError>
-    ensures { OnOk result (code.new.items ≡ code.old.items ++ record { target = target; right = right } ∷ []) }
+    ensures { OnOk result
+        (code.new.items ≡ code.old.items ++ record { target = target; right = right } ∷ []) }
 {
     code.push(Instruction { target, right })?;
     Ok(())
@@ -112,10 +115,10 @@ fn note_instruction(
     wiring: &Netlist,
     number: usize,
 ) -> Result<(), AllocError>
-    requires layout { IsLayout (netlist_of wiring.now) layout }
-    requires rules { KeepsRules (netlist_of wiring.now) }
+    requires laid { IsLaidOut (netlist_of wiring.now) layout }
     requires within { number < length wiring.now.assigns.items }
-    ensures { OnOk result ((i : Instruction) × IsInstructionAt (netlist_of wiring.now) number i × (code.new.items ≡ code.old.items ++ i ∷ [])) }
+    ensures { OnOk result ((i : Instruction) × IsInstructionAt (netlist_of wiring.now) number i
+        × (code.new.items ≡ code.old.items ++ i ∷ [])) }
 {
     let Instruction { target, right } = instruction_at(layout, wiring, number);
     add_instruction(code, target, right)
@@ -127,8 +130,7 @@ fn note_code(
     wiring: &Netlist,
     order: &[usize],
 ) -> Result<(), AllocError>
-    requires layout { IsLayout (netlist_of wiring.now) layout }
-    requires rules { KeepsRules (netlist_of wiring.now) }
+    requires laid { IsLaidOut (netlist_of wiring.now) layout }
     requires within { All (λ k. k < length wiring.now.assigns.items) order.now }
     requires empty { code.old.items ≡ [] }
     ensures { OnOk result (IsCode (netlist_of wiring.now) order.now code.new.items) }
@@ -146,8 +148,7 @@ pub fn code_of(
     wiring: &Netlist,
     order: &[usize],
 ) -> Result<Vec<Instruction>, AllocError>
-    requires layout { IsLayout (netlist_of wiring.now) layout }
-    requires rules { KeepsRules (netlist_of wiring.now) }
+    requires laid { IsLaidOut (netlist_of wiring.now) layout }
     requires within { All (λ k. k < length wiring.now.assigns.items) order.now }
     ensures { IfOk result (λ v. IsCode (netlist_of wiring.now) order.now v.items) }
 {
@@ -157,7 +158,8 @@ pub fn code_of(
 }
 
 fn note_assign(accesses: &mut Vec<Access>, layout: Layout, a: &Assign) -> Result<(), AllocError>
-    ensures { OnOk result ((m : TheNetlist) → IsLayout m layout → All (IsDeclared m) (nets_of a.now.right)
+    ensures { OnOk result ((m : TheNetlist) → IsLayout m layout
+        → All (IsDeclared m) (nets_of a.now.right)
         → accesses.new.items ≡ accesses.old.items ++ map (access m) (assign_accesses_of a.now)) }
 {
     match a.right {
@@ -190,9 +192,9 @@ fn assign_accesses(
     layout: Layout,
     wiring: &Netlist,
 ) -> Result<Vec<Access>, AllocError>
-    requires layout { IsLayout (netlist_of wiring.now) layout }
-    requires rules { KeepsRules (netlist_of wiring.now) }
-    ensures { IfOk result (λ v. v.items ≡ map (access (netlist_of wiring.now)) (accesses_of assign_accesses_of wiring.now.assigns.items)) }
+    requires { IsLaidOut (netlist_of wiring.now) layout }
+    ensures { IfOk result (λ v. v.items ≡ map (access (netlist_of wiring.now))
+        (accesses_of assign_accesses_of wiring.now.assigns.items)) }
 {
     let mut accesses = Vec::new(alloc);
     for a in &wiring.assigns {
@@ -207,9 +209,9 @@ pub fn accesses_of_wiring(
     layout: Layout,
     wiring: &Netlist,
 ) -> Result<Vec<Access>, AllocError>
-    requires layout { IsLayout (netlist_of wiring.now) layout }
-    requires rules { KeepsRules (netlist_of wiring.now) }
-    ensures { IfOk result (λ v. v.items ≡ map (access (netlist_of wiring.now)) (accesses (netlist_of wiring.now))) }
+    requires { IsLaidOut (netlist_of wiring.now) layout }
+    ensures { IfOk result
+        (λ v. v.items ≡ map (access (netlist_of wiring.now)) (accesses (netlist_of wiring.now))) }
 {
     let mut accesses = assign_accesses(alloc, layout, wiring)?;
     for u in &wiring.updates {
@@ -224,9 +226,9 @@ pub fn edges_of_wiring(
     layout: Layout,
     wiring: &Netlist,
 ) -> Result<Vec<Edge>, AllocError>
-    requires layout { IsLayout (netlist_of wiring.now) layout }
-    requires rules { KeepsRules (netlist_of wiring.now) }
-    ensures { IfOk result (λ v. v.items ≡ map (edge (netlist_of wiring.now)) wiring.now.updates.items) }
+    requires { IsLaidOut (netlist_of wiring.now) layout }
+    ensures { IfOk result
+        (λ v. v.items ≡ map (edge (netlist_of wiring.now)) wiring.now.updates.items) }
 {
     let mut edges = Vec::new(alloc);
     for u in &wiring.updates {
@@ -248,7 +250,8 @@ pub fn widths_of_wiring(alloc: Global, wiring: &Netlist) -> Result<Vec<Width>, A
 
 /// Where the nets of each sort begin.
 pub fn layout_of(wiring: &Netlist) -> Layout
-    ensures { length (all_widths (netlist_of wiring.now)) < 2 ^ 64 → IsLayout (netlist_of wiring.now) result }
+    ensures { length (all_widths (netlist_of wiring.now)) < 2 ^ 64
+        → IsLayout (netlist_of wiring.now) result }
 {
     let first_output = wiring.inputs.len();
     let first_wire = first_output.saturating_add(wiring.outputs.len());

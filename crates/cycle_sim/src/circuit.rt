@@ -64,15 +64,16 @@ fn part(numbers: &[u64], from: usize, count: usize) -> &[u64]
 }
 
 impl Circuit {
-    ghost use Rattle.wiring.specs.Snapshot.{HasOneSnapshot, HasOneNext, HasPlaces, FitsContents};
+    ghost use Rattle.wiring.specs.Snapshot.{FitsContents};
     ghost use Rattle.cycle_sim.specs.Slots.{words_of};
-    ghost use Rattle.cycle_sim.specs.Simulated.{Moment, held_contents};
+    ghost use Rattle.cycle_sim.specs.Simulated.{clock, held_contents, IsDetermined};
     ghost use Rattle.cycle_sim.specs.Filled.{filled_contents};
 
     // The netlist of a module, with these contents at power-up.
     pub fn new(alloc: Global, module: &Module, fill: Fill) -> Result<Circuit, AllocError>
         ensures netlist { IfOk result (λ s. s.netlist ≡ «module».now.netlist) }
-        ensures contents { IfOk result (λ s. s.shot.contents ≡ filled_contents fill «module».now.netlist) }
+        ensures contents { IfOk result
+            (λ s. s.shot.contents ≡ filled_contents fill «module».now.netlist) }
     {
         let wiring = copy_of(alloc, module.wiring())?;
         let order = Vec::from_slice(alloc, module.order())?;
@@ -92,10 +93,7 @@ impl Circuit {
 
     // A law: one valuation for each contents and inputs, one next contents, and contents that fit.
     pub fn law(&self)
-        ensures one_valuation { HasOneSnapshot self.now.netlist }
-        ensures one_next { HasOneNext self.now.netlist }
-        ensures places { HasPlaces self.now.netlist self.now.shot.contents }
-        ensures fit { FitsContents self.now.netlist self.now.shot.contents }
+        ensures { IsDetermined self.now.netlist self.now.shot.contents }
     {
         let _order = &self.order;
         wiring::one_valuation_law();
@@ -139,11 +137,11 @@ impl Circuit {
         requires { Fit (din_widths self.old.netlist) dins.now }
         ensures netlist { self.new.netlist ≡ self.old.netlist }
         ensures shot { SnapshotOf self.old.netlist self.old.shot.contents
-            (given self.old.netlist (record { reset = reset; enable = enable; dins = dins.now })) self.new.shot }
+            (given self.old.netlist (clock reset enable dins.now)) self.new.shot }
         ensures ok { OnOk result (IsInRange self.old.netlist self.new.shot) }
         ensures stops { IfErr result (λ r. StopsAt self.old.netlist self.new.shot r.array r.index) }
-        ensures only { (x i : ℕ)
-            → Stops self.old.netlist self.old.shot.contents (given self.old.netlist (record { reset = reset; enable = enable; dins = dins.now })) x i
+        ensures only { (x i : ℕ) → Stops self.old.netlist self.old.shot.contents
+            (given self.old.netlist (clock reset enable dins.now)) x i
             → result ≡ Err (record { array = x; index = i }) }
     {
         settle_vec(
@@ -172,10 +170,13 @@ impl Circuit {
 
     // Exchanges what registers and arrays hold for these. It takes no memory.
     pub fn exchange(&mut self, regs: &mut Vec<u64>, arrays: &mut Vec<Vec<u64>>)
-        requires fit { FitsContents self.old.netlist (held_contents regs.old.items (words_of arrays.old.items)) }
+        requires fit { FitsContents self.old.netlist
+            (held_contents regs.old.items (words_of arrays.old.items)) }
         ensures netlist { self.new.netlist ≡ self.old.netlist }
-        ensures contents { self.new.shot.contents ≡ held_contents regs.old.items (words_of arrays.old.items) }
-        ensures back { held_contents regs.new.items (words_of arrays.new.items) ≡ self.old.shot.contents }
+        ensures contents { self.new.shot.contents
+            ≡ held_contents regs.old.items (words_of arrays.old.items) }
+        ensures back { held_contents regs.new.items (words_of arrays.new.items)
+            ≡ self.old.shot.contents }
     {
         exchange_vec(&mut self.values, self.program.first_reg, regs);
         exchange_arrays(&mut self.arrays, arrays);

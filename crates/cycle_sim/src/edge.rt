@@ -1,7 +1,7 @@
 // Accesses to arrays, and the clock edge.
-ghost use Rattle.std.specs.Prelude.{◌≡◌, ℕ, ◌+◌, ◌<◌, ◌≤◌, ◌++◌, length, take, drop, map, All, MatchOption};
+ghost use Rattle.std.specs.Prelude.{◌≡◌, ◌+◌, ◌<◌, ◌≤◌, ◌++◌, length, take, drop, All, MatchOption};
 ghost use Rattle.cycle_sim.specs.Slots.{words_of, depth_at, put_at};
-ghost use Rattle.cycle_sim.specs.OneClock.{port_values, with_inputs};
+ghost use Rattle.cycle_sim.specs.OneClock.{port_values, with_inputs, Exchanges};
 ghost use Rattle.cycle_sim.specs.Edge.{IsAccessInside, IsFirstOutside, run_sets, run_puts, EdgesAreSafe};
 
 use crate::evaluate::atom;
@@ -39,7 +39,8 @@ fn depth_of(arrays: &[Vec<u64>], array: usize) -> u64
 
 // The first access outside its array.
 pub fn first_outside(accesses: &[Access], arrays: &[Vec<u64>], values: &[u64]) -> Option<IndexRange>
-    ensures { MatchOption result (All (IsAccessInside (words_of arrays.now) values.now) accesses.now)
+    ensures { MatchOption result
+        (All (IsAccessInside (words_of arrays.now) values.now) accesses.now)
         (IsFirstOutside (words_of arrays.now) values.now accesses.now) }
 {
     for access in accesses {
@@ -55,7 +56,8 @@ pub fn first_outside(accesses: &[Access], arrays: &[Vec<u64>], values: &[u64]) -
 // Puts numbers into the slots from this one on.
 pub fn put_from(values: &mut [u64], first: usize, numbers: &[u64])
     requires { first + length numbers.now ≤ length values.old }
-    ensures { values.new ≡ take first values.old ++ numbers.now ++ drop (first + length numbers.now) values.old }
+    ensures { values.new ≡ take first values.old ++ numbers.now ++ drop (first + length numbers.now)
+        values.old }
 {
     let end = first + numbers.len();
     values[first..end].copy_from_slice(numbers);
@@ -64,8 +66,7 @@ pub fn put_from(values: &mut [u64], first: usize, numbers: &[u64])
 // Exchanges the numbers in the slots from this one on for others.
 pub fn exchange_from(values: &mut [u64], first: usize, numbers: &mut [u64])
     requires { first + length numbers.old ≡ length values.old }
-    ensures values { values.new ≡ take first values.old ++ numbers.old }
-    ensures numbers { numbers.new ≡ drop first values.old }
+    ensures { Exchanges first values.old values.new numbers.old numbers.new }
 {
     values.split_at_mut(first).1.swap_with_slice(numbers);
 }

@@ -1,8 +1,8 @@
 // What a right side over slots is worth.
-ghost use Rattle.std.specs.Prelude.{◌≡◌, ℕ, zero, suc, ◌+◌, ◌-◌, ◌*◌, ◌/◌, ◌%◌, ◌^◌, ◌<◌, ◌≤◌, List, [], slice_index, slice_index_or, All};
-ghost use Rattle.wiring.specs.Rights.{atom_value, atom_width, right_value, operator_value, repeated, nets_of, constants_of};
-ghost use Rattle.wiring.specs.Rules.{DivisorIsConstant, WidthsAgree};
-ghost use Rattle.cycle_sim.specs.Slots.{word_at, words_of, IsNarrow};
+ghost use Rattle.std.specs.Prelude.{◌≡◌, ◌+◌, ◌-◌, ◌*◌, ◌/◌, ◌%◌, ◌^◌, ◌<◌, ◌≤◌, slice_index};
+ghost use Rattle.wiring.specs.Rights.{atom_value, atom_width, operator_value, repeated};
+ghost use Rattle.cycle_sim.specs.Slots.{word_at, words_of};
+ghost use Rattle.cycle_sim.specs.Code.{slots_value, CanEvaluate};
 
 use netlist::{Atom, Right, Width};
 use wiring::{join_value, limit, low_bits, operator_value};
@@ -79,11 +79,8 @@ pub fn evaluate(
     values: &[u64],
     right: &Right<usize, usize>,
 ) -> u64
-    requires agree { WidthsAgree (λ n. slice_index widths.now n) (λ _. 0) right.now }
-    requires divisor { DivisorIsConstant right.now }
-    requires narrow { IsNarrow (λ n. slice_index widths.now n) right.now }
-    requires fits { right_value (λ n. slice_index widths.now n) (word_at (words_of arrays.now)) (λ n. slice_index values.now n) right.now < 2 ^ 64 }
-    ensures { result ≡ right_value (λ n. slice_index widths.now n) (word_at (words_of arrays.now)) (λ n. slice_index values.now n) right.now }
+    requires { CanEvaluate widths.now (words_of arrays.now) values.now right.now }
+    ensures { result ≡ slots_value widths.now (words_of arrays.now) values.now right.now }
 {
     match right {
         Right::Copy(a) => atom(values, a),

@@ -31,7 +31,8 @@ pub fn out_at(outputs: &[u64], output: usize) -> Out
 pub fn show_outs(outputs: &[u64], outs: &mut [Out])
     requires { length outputs.now ≡ 2 * length outs.old }
     ensures length { length outs.new ≡ length outs.old }
-    ensures each { (k : ℕ) → k < length outs.old → slice_get outs.new k ≡ Some (out_of outputs.now k) }
+    ensures each { (k : ℕ) → k < length outs.old
+        → slice_get outs.new k ≡ Some (out_of outputs.now k) }
 {
     for output in 0..outs.len() {
         outs[output] = out_at(outputs, output);

@@ -1,12 +1,11 @@
 // Runs over lists of clocks.
 
-ghost use Rattle.std.specs.Prelude.{◌≡◌, ◌≢◌, ◌⊎◌, ℕ, List, ◌+◌, ◌*◌, ◌<◌, ◌≤◌, ◌++◌, [], ◌∷◌, length, All, IsTrue, Err, IsOk, OnOk, IfErr, if◌then◌else◌};
+ghost use Rattle.std.specs.Prelude.{◌≡◌, ◌≢◌, ◌⊎◌, ℕ, List, ◌+◌, ◌*◌, ◌<◌, ◌≤◌, ◌++◌, [], ◌∷◌, length, IsTrue, Err, IsOk, OnOk, IfErr, if◌then◌else◌};
 ghost use Rattle.std.specs.Vec.{vec_capacity, vec_len};
 ghost use Rattle.wiring.specs.Snapshot.{Contents};
-ghost use Rattle.cycle_sim.specs.declared.running.Clock.{Clock as GivenClock};
 ghost use Rattle.wiring.specs.Snapshot.{Fit};
 ghost use Rattle.cycle_sim.specs.Ports.{din_widths};
-ghost use Rattle.cycle_sim.specs.Runs.{clock_of, clocks_of, Ran, RanToStop, EndsEarly};
+ghost use Rattle.cycle_sim.specs.Runs.{clock_of, clocks_of, EndsEarly, FitClocks, Ran, RanToStop, RunsClocks};
 ghost use Rattle.cycle_sim.specs.declared.running.RunFault.TheVariants.{Stopped, OutOfMemory};
 
 use crate::edge::IndexRange;
@@ -33,8 +32,8 @@ pub enum RunFault {
 
 /// Whether a simulator can take what each of the clocks gives to its din ports: what `run` asks of them.
 pub fn clocks_fit(sim: &Sim, clocks: &[Clock]) -> bool
-    ensures yes { IsTrue result → All (λ (c : GivenClock). Fit (din_widths sim.now.netlist) c.dins.items) clocks.now }
-    ensures no { All (λ (c : GivenClock). Fit (din_widths sim.now.netlist) c.dins.items) clocks.now → IsTrue result }
+    ensures yes { IsTrue result → FitClocks sim.now.netlist clocks.now }
+    ensures no { FitClocks sim.now.netlist clocks.now → IsTrue result }
 {
     for clock in clocks {
         if !sim.fits(&clock.dins) {
@@ -47,7 +46,8 @@ pub fn clocks_fit(sim: &Sim, clocks: &[Clock]) -> bool
 // Adds what an output shows, where its valid is 1. There is room for it.
 fn note(samples: &mut Vec<u64>, out: Out)
     requires { vec_len samples.old < vec_capacity samples.old }
-    ensures items { samples.new.items ≡ samples.old.items ++ (if out.valid then out.dout ∷ [] else []) }
+    ensures items { samples.new.items
+        ≡ samples.old.items ++ (if out.valid then out.dout ∷ [] else []) }
     ensures count { vec_len samples.new ≤ vec_len samples.old + 1 }
     ensures capacity { vec_capacity samples.new ≡ vec_capacity samples.old }
 {
@@ -65,12 +65,8 @@ fn run_clock(
     requires dins { Fit (din_widths sim.old.netlist) clock.now.dins.items }
     requires output { 2 * output + 1 < length sim.old.netlist.outputs }
     requires room { vec_len samples.old < vec_capacity samples.old }
-    ensures netlist { sim.new.netlist ≡ sim.old.netlist }
-    ensures ok { OnOk result (Ran sim.old.netlist output (clock_of clock.now ∷ []) sim.old.contents samples.old.items sim.new.contents samples.new.items) }
-    ensures stop { IfErr result (λ r. RanToStop sim.old.netlist output
-        (clock_of clock.now ∷ []) sim.old.contents samples.old.items sim.new.contents samples.new.items r.array r.index) }
-    ensures count { vec_len samples.new ≤ vec_len samples.old + 1 }
-    ensures capacity { vec_capacity samples.new ≡ vec_capacity samples.old }
+    ensures { RunsClocks sim.old sim.new output (clock_of clock.now ∷ []) samples.old samples.new 1
+        result }
 {
     match sim.step_output(clock.reset, clock.enable, &clock.dins, output) {
         Err(range) => Err(range),
@@ -88,15 +84,11 @@ fn run_clocks(
     output: usize,
     samples: &mut Vec<u64>,
 ) -> Result<(), IndexRange>
-    requires dins { All (λ (c : GivenClock). Fit (din_widths sim.old.netlist) c.dins.items) clocks.now }
+    requires dins { FitClocks sim.old.netlist clocks.now }
     requires output { 2 * output + 1 < length sim.old.netlist.outputs }
     requires room { vec_len samples.old + length clocks.now ≤ vec_capacity samples.old }
-    ensures netlist { sim.new.netlist ≡ sim.old.netlist }
-    ensures ok { OnOk result (Ran sim.old.netlist output (clocks_of clocks.now) sim.old.contents samples.old.items sim.new.contents samples.new.items) }
-    ensures stop { IfErr result (λ r. RanToStop sim.old.netlist output
-        (clocks_of clocks.now) sim.old.contents samples.old.items sim.new.contents samples.new.items r.array r.index) }
-    ensures count { vec_len samples.new ≤ vec_len samples.old + length clocks.now }
-    ensures capacity { vec_capacity samples.new ≡ vec_capacity samples.old }
+    ensures { RunsClocks sim.old sim.new output (clocks_of clocks.now) samples.old samples.new
+        (length clocks.now) result }
 {
     for clock in clocks {
         run_clock(sim, clock, output, samples)?;
@@ -113,17 +105,25 @@ pub fn run(
     output: usize,
     samples: &mut Vec<u64>,
 ) -> Result<(), RunFault>
-    requires dins { All (λ (c : GivenClock). Fit (din_widths sim.old.netlist) c.dins.items) clocks.now }
+    requires dins { FitClocks sim.old.netlist clocks.now }
     requires output { 2 * output + 1 < length sim.old.netlist.outputs }
     ensures netlist { sim.new.netlist ≡ sim.old.netlist }
-    ensures ok { OnOk result (Ran sim.old.netlist output (clocks_of clocks.now) sim.old.contents samples.old.items sim.new.contents samples.new.items) }
-    ensures err { IfErr result (EndsEarly sim.old.netlist output (clocks_of clocks.now) sim.old.contents samples.old.items sim.new.contents samples.new.items) }
-    ensures to_end { (to : Contents) (all : List ℕ) → Ran sim.old.netlist output (clocks_of clocks.now) sim.old.contents samples.old.items to all
-        → (result ≡ Err OutOfMemory) ⊎ (IsOk result × (sim.new.contents ≡ to) × (samples.new.items ≡ all)) }
+    ensures ok { OnOk result (Ran sim.old.netlist output (clocks_of clocks.now)
+        sim.old.contents samples.old.items sim.new.contents samples.new.items) }
+    ensures err { IfErr result (EndsEarly sim.old.netlist output (clocks_of clocks.now)
+        sim.old.contents samples.old.items sim.new.contents samples.new.items) }
+    ensures to_end { (to : Contents) (all : List ℕ)
+        → Ran sim.old.netlist output (clocks_of clocks.now) sim.old.contents samples.old.items
+        to all
+        → (result ≡ Err OutOfMemory)
+        ⊎ (IsOk result × (sim.new.contents ≡ to) × (samples.new.items ≡ all)) }
     ensures to_stop { (to : Contents) (all : List ℕ) (x i : ℕ)
-        → RanToStop sim.old.netlist output (clocks_of clocks.now) sim.old.contents samples.old.items to all x i → (result ≡ Err OutOfMemory)
-        ⊎ ((result ≡ Err (Stopped (record { array = x; index = i }))) × (sim.new.contents ≡ to) × (samples.new.items ≡ all)) }
-    ensures room { vec_len samples.old + length clocks.now ≤ vec_capacity samples.old → result ≢ Err OutOfMemory }
+        → RanToStop sim.old.netlist output (clocks_of clocks.now) sim.old.contents samples.old.items
+        to all x i
+        → (result ≡ Err OutOfMemory) ⊎ ((result ≡ Err (Stopped (record { array = x; index = i })))
+        × (sim.new.contents ≡ to) × (samples.new.items ≡ all)) }
+    ensures room { vec_len samples.old + length clocks.now ≤ vec_capacity samples.old
+        → result ≢ Err OutOfMemory }
     ensures count { vec_len samples.new ≤ vec_len samples.old + length clocks.now }
     ensures capacity { vec_capacity samples.old ≤ vec_capacity samples.new }
 {

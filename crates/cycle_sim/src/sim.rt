@@ -3,9 +3,9 @@
 ghost use Rattle.std.specs.Prelude.{◌≡◌, ℕ, Err, ◌<◌, ◌+◌, ◌*◌, [], ◌∷◌, true, length, IsTrue, OnOk, IfOk, IfErr, OnErr};
 ghost use Rattle.wiring.specs.Snapshot.{Snapshot, Fit, HasOneSnapshot, HasOneNext, HasPlaces, FitsContents};
 ghost use Rattle.cycle_sim.specs.Slots.{all_values, all_widths, words_of};
-ghost use Rattle.cycle_sim.specs.Ports.{din_widths, IsShown, AreShown};
+ghost use Rattle.cycle_sim.specs.Ports.{din_widths, AreShown};
 ghost use Rattle.cycle_sim.specs.Filled.{filled_contents};
-ghost use Rattle.cycle_sim.specs.Simulated.{GoesOn, StopsIn, clock, held_contents};
+ghost use Rattle.cycle_sim.specs.Simulated.{clock, held_contents, GoesOn, ShowsOutput, StopsIn};
 
 use crate::circuit::Circuit;
 use crate::edge::IndexRange;
@@ -34,7 +34,8 @@ impl Sim {
     /// A simulator of a module, with these contents at power-up.
     pub fn new(alloc: Global, module: &Module, fill: Fill) -> Result<Sim, OutOfMemory>
         ensures netlist { IfOk result (λ s. s.netlist ≡ «module».now.netlist) }
-        ensures contents { IfOk result (λ s. s.contents ≡ filled_contents fill «module».now.netlist) }
+        ensures contents { IfOk result
+            (λ s. s.contents ≡ filled_contents fill «module».now.netlist) }
     {
         let circuit = Circuit::new(alloc, module, fill)?;
         let sim = Sim { circuit };
@@ -79,9 +80,12 @@ impl Sim {
         requires dins { Fit (din_widths self.old.netlist) dins.now }
         requires outs { length self.old.netlist.outputs ≡ 2 * length outs.old }
         ensures netlist { self.new.netlist ≡ self.old.netlist }
-        ensures ok { OnOk result ((s : Snapshot) × GoesOn self.old (clock reset enable dins.now) s self.new × AreShown s outs.new) }
-        ensures stops { IfErr result (λ r. StopsIn self.old (clock reset enable dins.now) r.array r.index) }
-        ensures only { (x i : ℕ) → StopsIn self.old (clock reset enable dins.now) x i → result ≡ Err (record { array = x; index = i }) }
+        ensures ok { OnOk result ((s : Snapshot)
+            × GoesOn self.old (clock reset enable dins.now) s self.new × AreShown s outs.new) }
+        ensures stops { IfErr result
+            (λ r. StopsIn self.old (clock reset enable dins.now) r.array r.index) }
+        ensures only { (x i : ℕ) → StopsIn self.old (clock reset enable dins.now) x i
+            → result ≡ Err (record { array = x; index = i }) }
         ensures err { OnErr result (self.new ≡ self.old) }
         ensures outs { OnErr result (outs.new ≡ outs.old) }
     {
@@ -105,11 +109,7 @@ impl Sim {
     ) -> Result<Out, IndexRange>
         requires dins { Fit (din_widths self.old.netlist) dins.now }
         requires output { 2 * output + 1 < length self.old.netlist.outputs }
-        ensures netlist { self.new.netlist ≡ self.old.netlist }
-        ensures ok { IfOk result (λ out. (s : Snapshot) × GoesOn self.old (clock reset enable dins.now) s self.new × IsShown s output out) }
-        ensures stops { IfErr result (λ r. StopsIn self.old (clock reset enable dins.now) r.array r.index) }
-        ensures only { (x i : ℕ) → StopsIn self.old (clock reset enable dins.now) x i → result ≡ Err (record { array = x; index = i }) }
-        ensures err { OnErr result (self.new ≡ self.old) }
+        ensures { ShowsOutput self.old self.new (clock reset enable dins.now) output result }
     {
         match self.circuit.settle(reset, enable, dins) {
             Err(range) => Err(range),
@@ -125,11 +125,7 @@ impl Sim {
     pub fn step_enabled(&mut self, reset: bool, enable: bool, din: u64) -> Result<Out, IndexRange>
         requires din { Fit (din_widths self.old.netlist) (din ∷ []) }
         requires one { length self.old.netlist.outputs ≡ 2 }
-        ensures netlist { self.new.netlist ≡ self.old.netlist }
-        ensures ok { IfOk result (λ out. (s : Snapshot) × GoesOn self.old (clock reset enable (din ∷ [])) s self.new × IsShown s 0 out) }
-        ensures stops { IfErr result (λ r. StopsIn self.old (clock reset enable (din ∷ [])) r.array r.index) }
-        ensures only { (x i : ℕ) → StopsIn self.old (clock reset enable (din ∷ [])) x i → result ≡ Err (record { array = x; index = i }) }
-        ensures err { OnErr result (self.new ≡ self.old) }
+        ensures { ShowsOutput self.old self.new (clock reset enable (din ∷ [])) 0 result }
     {
         self.step_output(reset, enable, &[din], 0)
     }
@@ -138,11 +134,7 @@ impl Sim {
     pub fn step(&mut self, reset: bool, din: u64) -> Result<Out, IndexRange>
         requires din { Fit (din_widths self.old.netlist) (din ∷ []) }
         requires one { length self.old.netlist.outputs ≡ 2 }
-        ensures netlist { self.new.netlist ≡ self.old.netlist }
-        ensures ok { IfOk result (λ out. (s : Snapshot) × GoesOn self.old (clock reset true (din ∷ [])) s self.new × IsShown s 0 out) }
-        ensures stops { IfErr result (λ r. StopsIn self.old (clock reset true (din ∷ [])) r.array r.index) }
-        ensures only { (x i : ℕ) → StopsIn self.old (clock reset true (din ∷ [])) x i → result ≡ Err (record { array = x; index = i }) }
-        ensures err { OnErr result (self.new ≡ self.old) }
+        ensures { ShowsOutput self.old self.new (clock reset true (din ∷ [])) 0 result }
     {
         self.step_enabled(reset, true, din)
     }
@@ -166,9 +158,13 @@ impl Sim {
         requires dins { Fit (din_widths self.old.netlist) dins.now }
         requires seen { length seen.old ≡ length (all_widths self.old.netlist) }
         ensures netlist { self.new.netlist ≡ self.old.netlist }
-        ensures ok { OnOk result ((s : Snapshot) × GoesOn self.old (clock reset enable dins.now) s self.new × (seen.new ≡ all_values s)) }
-        ensures stops { IfErr result (λ r. StopsIn self.old (clock reset enable dins.now) r.array r.index) }
-        ensures only { (x i : ℕ) → StopsIn self.old (clock reset enable dins.now) x i → result ≡ Err (record { array = x; index = i }) }
+        ensures ok { OnOk result ((s : Snapshot)
+            × GoesOn self.old (clock reset enable dins.now) s self.new
+            × (seen.new ≡ all_values s)) }
+        ensures stops { IfErr result
+            (λ r. StopsIn self.old (clock reset enable dins.now) r.array r.index) }
+        ensures only { (x i : ℕ) → StopsIn self.old (clock reset enable dins.now) x i
+            → result ≡ Err (record { array = x; index = i }) }
         ensures err { OnErr result (self.new ≡ self.old) }
         ensures seen { OnErr result (seen.new ≡ seen.old) }
     {
@@ -184,10 +180,13 @@ impl Sim {
 
     /// Exchanges what registers and arrays hold for these, which have to fit. It takes no memory.
     pub fn exchange(&mut self, regs: &mut Vec<u64>, arrays: &mut Vec<Vec<u64>>)
-        requires fit { FitsContents self.old.netlist (held_contents regs.old.items (words_of arrays.old.items)) }
+        requires fit { FitsContents self.old.netlist
+            (held_contents regs.old.items (words_of arrays.old.items)) }
         ensures netlist { self.new.netlist ≡ self.old.netlist }
-        ensures contents { self.new.contents ≡ held_contents regs.old.items (words_of arrays.old.items) }
-        ensures back { held_contents regs.new.items (words_of arrays.new.items) ≡ self.old.contents }
+        ensures contents { self.new.contents
+            ≡ held_contents regs.old.items (words_of arrays.old.items) }
+        ensures back { held_contents regs.new.items (words_of arrays.new.items)
+            ≡ self.old.contents }
     {
         self.circuit.exchange(regs, arrays);
     }

@@ -19,8 +19,8 @@ use Rattle.cycle_sim.specs.declared.ports.Out.{Out}
 use Rattle.cycle_sim.specs.Ports.{din_widths, AreShown}
 use Rattle.cycle_sim.proofs.Given.{given_fit}
 use Rattle.batch_sim.specs.declared.batches.Stop.{Stop as BatchStop}
-use Rattle.batch_sim.specs.Called.{of_clock, batch_clocks, BatchRan, BatchStops}
-use Rattle.batch_sim.proofs.Clockwise.{clocks_count, place_within, half_is}
+use Rattle.batch_sim.specs.Called.{of_clock, batch_clocks, BatchRan}
+use Rattle.batch_sim.proofs.Clockwise.{clocks_count, half_is}
 use Rattle.test_bench.specs.declared.picture.Shown.{Shown}
 use Rattle.test_bench.specs.declared.clocking.Bench.{Bench}
 use Rattle.stimulus.specs.declared.stop.Stop.TheVariants.{Index}

@@ -1,11 +1,12 @@
 -- Used by private functions only.
 -- What the clocks of a batch show.
-use Rattle.std.specs.Prelude.{◌≡◌, ◌*◌, ◌≤◌, ℕ, List, slice_get, Some, ◌+◌, Bool, [], ◌∷◌, ◌++◌, length, map, Option, if◌then◌else◌}
-use Rattle.wiring.specs.Snapshot.{Snapshot, Contents, Fit}
+use Rattle.std.specs.Prelude.{◌≡◌, ◌*◌, ◌^◌, ◌<◌, ◌≤◌, ℕ, List, slice_get, Some, ◌+◌, Bool, [], ◌∷◌, ◌++◌, length, map, Option, if◌then◌else◌}
+use Rattle.wiring.specs.Snapshot.{Snapshot, Contents}
 use Rattle.cycle_sim.specs.declared.ports.Out.{Out}
 use Rattle.cycle_sim.specs.Ports.{AreShown, din_widths}
-use Rattle.batch_sim.specs.Called.{batch_clocks, of_clock}
+use Rattle.batch_sim.specs.Called.{batch_clocks, of_clock, FitPorts, output_count as batch_outputs}
 use Rattle.std.specs.List.{All}
+use Rattle.dk_base.specs.declared.TheConstants.{MAX_PORT_WIDTH}
 use Rattle.wiring.specs.Netlist.{Netlist}
 use Rattle.wiring.specs.Clock.{Clock}
 use Rattle.wiring.specs.Runs.{Runs, RunStops}
@@ -14,7 +15,7 @@ use Rattle.test_bench.specs.declared.batch.Batch.{Batch}
 use Rattle.test_bench.specs.declared.picture.Shown.{Shown}
 use Rattle.batch_sim.specs.declared.batches.Stop.{Stop as BatchStop}
 use Rattle.stimulus.specs.Showing.{notes_of}
-use Rattle.test_bench.specs.Clocking.{AreKept, DoutsFit, GoOn, IsKept}
+use Rattle.test_bench.specs.Clocking.{AreKept, DoutsFit, GoOn, HaveRoomFor, IsKept}
 
 -- the outputs of each clock show its snapshot; those of a clock follow those of the clock before
 abbrev pub AreShownIn : (outputs : ℕ) → List Snapshot → List Out → Type 0
@@ -52,7 +53,7 @@ clocks_of m batch = batch_clocks m batch.enables.items batch.dins.items
 
 -- The clocks of a batch fit the module, and there are no more than there is room for.
 pub record HasClocks (m : Netlist) (batch : Batch) : Type 0 where
-  pub fit : All (λ (c : Clock). Fit (din_widths m) c.dins) (clocks_of m batch)
+  pub fit : FitPorts m (clocks_of m batch)
   pub whole : length batch.dins.items ≡ length batch.enables.items * length (din_widths m)
   pub few : length batch.enables.items ≤ 2 * BATCH_PIXELS
 
@@ -61,3 +62,30 @@ pub record KeepsClocks (old new : Batch) : Type 0 where
   pub enables : new.enables ≡ old.enables
   pub dins : new.dins ≡ old.dins
   pub outs : length new.outs.items ≡ length old.outs.items
+
+-- Clocks can be made in one call, in which the outputs show what is in the first places.
+pub record CanStepFront (m : Netlist) (enables : List Bool) (numbers : List ℕ) (outs : List Out) (first : ℕ) : Type 0 where
+  -- the dins of each clock fit their ports
+  pub fit : FitPorts m (batch_clocks m enables numbers)
+  -- each clock has all dins
+  pub all : length numbers ≡ length enables * length (din_widths m)
+  -- and a place for each output
+  pub places : first ≡ length enables * batch_outputs m
+  -- there are so many places
+  pub room : first ≤ length outs
+
+-- what each output shows in a clock is added to its picture
+abbrev pub AddsShown : (most : ℕ) → (old new : List Shown) → List Out → Type 0
+AddsShown most old new outs = (k : ℕ) (a b : Shown) (out : Out) → slice_get old k ≡ Some a → slice_get new k ≡ Some b
+    → slice_get outs k ≡ Some out → Extends most a b (sample_of out)
+
+-- all douts fit the widest port
+abbrev pub DoutsAreSmall : List Out → Type 0
+DoutsAreSmall outs = All (λ (out : Out). out.dout < 2 ^ MAX_PORT_WIDTH) outs
+
+-- Pictures to which outputs of clocks were added.
+pub record ArePictures (most number : ℕ) (pictures : List Shown) : Type 0 where
+  -- there are so many
+  pub count : length pictures ≡ number
+  -- each has room for its samples
+  pub room : HaveRoomFor most pictures

@@ -1,15 +1,18 @@
 -- How far a bench has come: its clocks, its pictures and its notes.
-use Rattle.std.specs.Prelude.{◌≡◌, ℕ, ◌+◌, ◌-◌, ◌*◌, ◌^◌, ◌<◌, ◌≤◌, min, ℤ, pos, ◌-ℤ◌, Bool, List, ◌++◌, length, take, Option, slice_get, Some, vec_capacity, IfSome}
-use Rattle.std.specs.List.{All}
+use Rattle.std.specs.Prelude.{◌≡◌, ℕ, ◌+◌, ◌-◌, ◌*◌, ◌^◌, ◌<◌, ◌≤◌, min, ℤ, pos, ◌-ℤ◌, Bool, List, ◌++◌, length, take, Option, slice_get, Some, vec_capacity, IfSome, [], ◌∷◌, Result, MatchResult}
+use Rattle.std.specs.List.{All, flat_map, range_with_len}
 use Rattle.std.specs.Option.{option_map}
 use Rattle.dk_base.specs.Frames.{Size, area}
 use Rattle.dk_desk.specs.Calls.{IsIfTold}
+use Rattle.dk_desk.specs.Outside.{Outside}
 use Rattle.wiring.specs.Netlist.{Netlist, net_width, dout_net}
 use Rattle.wiring.specs.Rules.{KeepsRules}
 use Rattle.wiring.specs.Order.{IsEvaluationOrder}
 use Rattle.wiring.specs.Snapshot.{Contents, Snapshot, net_value}
 use Rattle.wiring.specs.Clock.{Clock}
 use Rattle.wiring.specs.Runs.{Runs, RunStops, picture}
+use Rattle.cycle_sim.specs.declared.fill.Fill.{Fill}
+use Rattle.cycle_sim.specs.Filled.{filled_contents}
 use Rattle.cycle_sim.specs.Ports.{din_widths}
 use Rattle.pgm_rounds.specs.declared.round.Round.{Round}
 use Rattle.test_bench.specs.declared.picture.Shown.{Shown}
@@ -17,8 +20,8 @@ use Rattle.test_bench.specs.declared.clocking.Bench.{Bench}
 use Rattle.test_bench.specs.declared.clocking.Feed.{Feed}
 use Rattle.stimulus.specs.declared.stop.Stop.{Stop}
 use Rattle.stimulus.specs.declared.stop.Stop.TheVariants.{Index, Count}
-use Rattle.stimulus.specs.Stimulus.{greatest_dins}
-use Rattle.stimulus.specs.Given.{AreBenchFrames}
+use Rattle.stimulus.specs.Stimulus.{greatest_dins, clocks_at, reset_clock}
+use Rattle.stimulus.specs.Given.{rounds_of, AreBenchFrames}
 use Rattle.stimulus.specs.Showing.{output_count, notes_of}
 use Rattle.test_bench.specs.Batches.{HasBatch}
 
@@ -78,3 +81,86 @@ pub record IsFed (m : Netlist) (size : Size) (feed : Feed) (rounds : List Round)
   pub hold : IfSome feed.hold (λ count. 0 < count)
   pub held : feed.held.items ≡ greatest_dins (din_widths m)
   pub frames : AreBenchFrames (din_widths m) size rounds
+
+-- the clocks of these pixels, counted from one, with the held clocks between them
+abbrev pub pixel_clocks : Netlist → Feed → List Round → (start count : ℕ) → List Clock
+pixel_clocks m feed rounds start count = flat_map (clocks_at feed.hold (din_widths m) (rounds_of rounds)) (range_with_len start count)
+
+-- the reset clock, and then the clocks of this many pixels
+abbrev pub whole_drive : Netlist → Feed → List Round → ℕ → List Clock
+whole_drive m feed rounds count = reset_clock (length (din_widths m)) ∷ pixel_clocks m feed rounds 0 count
+
+-- of the outside only the notes change
+abbrev pub OnlyNotes : (before now : Outside) → Type 0
+OnlyNotes before now = now ≡ record before { notes = now.notes }
+
+-- A bench that goes through clocks, with its notes.
+pub record HasDriven (clocks : List Clock) (old new : Bench) (before now : Outside) : Type 0 where
+  -- of the outside only the notes change
+  pub only : OnlyNotes before now
+  -- the pictures and the notes have these clocks
+  pub ok : Clocked old.sim.netlist clocks old new before.notes now.notes
+
+-- A bench that stops in clocks.
+pub record HasStopped (clocks : List Clock) (old : Bench) (before now : Outside) (answer : Stop) : Type 0 where
+  -- of the outside only the notes change
+  pub only : OnlyNotes before now
+  -- the run over these clocks stops so
+  pub stop : StopsIn old.sim.netlist old.sim.contents old.made clocks answer
+
+-- clocks of a bench: it goes through them, or stops in them
+abbrev pub Drives : List Clock → (old new : Bench) → (before now : Outside) → Result (Unit {0}) Stop → Type 0
+Drives clocks old new before now result = MatchResult result (λ _. HasDriven clocks old new before now) (HasStopped clocks old before now)
+
+-- A bench that goes through the clocks of pixels, counted from one, with its notes.
+pub record HasDrivenPixels (feed : Feed) (rounds : List Round) (start count : ℕ) (old new : Bench) (before now : Outside) : Type 0 where
+  -- there are at most two clocks for each pixel
+  pub few : new.made ≤ old.made + 2 * count
+  -- of the outside only the notes change
+  pub only : OnlyNotes before now
+  -- the pictures and the notes have these clocks
+  pub ok : Clocked old.sim.netlist (pixel_clocks old.sim.netlist feed rounds start count) old new before.notes now.notes
+
+-- the clocks of pixels: the bench goes through them, or stops in them
+abbrev pub DrivesPixels : Feed → List Round → (start count : ℕ) → (old new : Bench) → (before now : Outside) → Result (Unit {0}) Stop → Type 0
+DrivesPixels feed rounds start count old new before now result =
+    MatchResult result (λ _. HasDrivenPixels feed rounds start count old new before now) (HasStopped (pixel_clocks old.sim.netlist feed rounds start count) old before now)
+
+-- the bench is given these rounds, which are of one size
+abbrev pub IsFedTo : Netlist → Feed → List Round → Type 0
+IsFedTo m feed rounds = (size : Size) × IsFed m size feed rounds
+
+-- A bench can be driven with these rounds.
+pub record CanDrive (b : Bench) (feed : Feed) (rounds : List Round) : Type 0 where
+  -- it keeps its invariant
+  pub bench : IsBench b
+  -- the feed is that of the rounds
+  pub fed : IsFedTo b.sim.netlist feed rounds
+
+-- all pictures have room for this many samples
+abbrev pub HaveRoomFor : ℕ → List Shown → Type 0
+HaveRoomFor most pictures = All (λ shown. most ≤ vec_capacity shown.samples) pictures
+
+-- Pictures without samples, with room for this many each.
+pub record ArePlain (samples number : ℕ) (pictures : List Shown) : Type 0 where
+  -- there are this many
+  pub count : length pictures ≡ number
+  -- they have no samples
+  pub kept : AreKept samples [] pictures
+  -- and room for them
+  pub room : HaveRoomFor samples pictures
+
+-- A bench with this module before its first clock, with this filling.
+pub record IsSetUp (m : Netlist) (fill : Fill) (samples : ℕ) (b : Bench) : Type 0 where
+  -- it keeps its invariant
+  pub bench : IsBench b
+  -- its netlist is the module's
+  pub netlist : b.sim.netlist ≡ m
+  -- registers and arrays are filled
+  pub contents : b.sim.contents ≡ filled_contents fill m
+  -- it keeps the first of this many samples of each picture
+  pub most : b.most ≡ samples
+  -- it has made no clock
+  pub made : b.made ≡ 0
+  -- and its pictures have no samples
+  pub kept : AreKept samples [] b.pictures.items

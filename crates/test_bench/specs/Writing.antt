@@ -1,6 +1,7 @@
 -- The pictures that are kept, and their images.
 use Rattle.std.specs.Prelude.{◌≡◌, ℕ, ◌+◌, ◌*◌, ◌-◌, ◌^◌, ◌<◌, ◌≤◌, List, [], length, map, take, drop, slice_get, slice_index, slice_index_or, Some}
-use Rattle.std.specs.List.{All, range_with_len}
+use Rattle.std.specs.List.{All, flat_map, range_with_len}
+use Rattle.dk_base.specs.declared.TheConstants.{MAX_FILE_IMAGES}
 use Rattle.dk_base.specs.Frames.{Size, area}
 use Rattle.wiring.specs.Rules.{IsPortWidth}
 use Rattle.pgm_codec.specs.Images.{Image}
@@ -41,3 +42,11 @@ image_kept size ports pictures round output = record { width = size.width; heigh
 -- those of all outputs
 abbrev pub round_kept : Size → (ports : List ℕ) → List Shown → (round : ℕ) → List Image
 round_kept size ports pictures round = map (image_kept size ports pictures round) (range_with_len 0 (length pictures))
+
+-- pictures of whole rounds, this round among them
+abbrev pub HaveRound : Size → (ports : List ℕ) → List Shown → (round : ℕ) → Type 0
+HaveRound size ports pictures round = (rounds : ℕ) × (round < rounds) × (rounds ≤ MAX_FILE_IMAGES) × AreWhole size ports rounds pictures
+
+-- those of this many rounds
+abbrev pub rounds_kept : Size → (ports : List ℕ) → List Shown → (rounds : ℕ) → List Image
+rounds_kept size ports pictures rounds = flat_map (round_kept size ports pictures) (range_with_len 0 rounds)

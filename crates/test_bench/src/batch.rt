@@ -1,19 +1,16 @@
 // Batches of clocks.
 
 ghost use Rattle.std.specs.Prelude.{◌≡◌, ℕ, ◌+◌, ◌*◌, ◌^◌, ◌<◌, ◌≤◌, ◌++◌, ◌∷◌, [], List, false, length, take, IfOk, IfErr, OnOk, vec_capacity, if◌then◌else◌};
-ghost use Rattle.std.specs.List.{All, flat_map, range_with_len};
 ghost use Rattle.dk_base.specs.Frames.{Size, area as area_of};
 ghost use Rattle.wiring.specs.Netlist.{Netlist};
 ghost use Rattle.cycle_sim.specs.Ports.{din_widths};
-ghost use Rattle.wiring.specs.Snapshot.{Fit};
-ghost use Rattle.wiring.specs.Clock.{Clock};
-ghost use Rattle.batch_sim.specs.Called.{BatchRan, batch_clocks, clocks_with, output_count};
+ghost use Rattle.batch_sim.specs.Called.{clocks_for, MachineRan};
 ghost use Rattle.test_bench.specs.declared.batch.TheConstants.{BATCH_PIXELS};
 ghost use Rattle.stimulus.specs.Stimulus.{dins_at, pixel_clock, is_held_after, clocks_at};
 ghost use Rattle.stimulus.specs.Given.{rounds_of, AreBenchFrames};
-ghost use Rattle.test_bench.specs.Clocking.{IsFed};
-ghost use Rattle.test_bench.specs.Batches.{HasBatch, KeepsRoom};
-ghost use Rattle.test_bench.specs.BatchClocks.{HasClocks, KeepsClocks, StopsBatch, clocks_of};
+ghost use Rattle.test_bench.specs.Clocking.{IsFed, IsFedTo, pixel_clocks};
+ghost use Rattle.test_bench.specs.Batches.{clocks_in, Appends, HasBatch, HasPlacesFor, IsGiven, KeepsRoom};
+ghost use Rattle.test_bench.specs.BatchClocks.{CanStepFront, HasClocks, KeepsClocks, StopsBatch, clocks_of};
 
 use crate::clocking::Feed;
 use batch_sim::{Batches, Stop};
@@ -64,9 +61,10 @@ impl Batch {
         requires room { length self.old.outs.items ≡ 2 * BATCH_PIXELS * ports }
         ensures netlist { sim.new.netlist ≡ sim.old.netlist }
         ensures keeps { KeepsClocks self.old self.new }
-        ensures ok { OnOk result (BatchRan sim.old.netlist (clocks_of sim.old.netlist self.old)
-            sim.old.contents sim.new.contents (take (length self.old.enables.items * ports) self.new.outs.items)) }
-        ensures stop { IfErr result (StopsBatch sim.old.netlist (clocks_of sim.old.netlist self.old) sim.old.contents) }
+        ensures ok { OnOk result (MachineRan sim.old sim.new (clocks_of sim.old.netlist self.old)
+            (take (length self.old.enables.items * ports) self.new.outs.items)) }
+        ensures stop { IfErr result
+            (StopsBatch sim.old.netlist (clocks_of sim.old.netlist self.old) sim.old.contents) }
     {
         let places = self.enables.len() * ports;
         step_front(sim, &self.enables, &self.dins, &mut self.outs, places)
@@ -89,15 +87,13 @@ fn step_within(
     outs: &mut [Out],
     places: usize,
 ) -> Result<(), Stop>
-    requires fit { All (λ (c : Clock). Fit (din_widths sim.old.netlist) c.dins) (batch_clocks sim.old.netlist enables.now dins.now) }
-    requires all { length dins.now ≡ length enables.now * length (din_widths sim.old.netlist) }
-    requires places { places ≡ length enables.now * output_count sim.old.netlist }
-    requires room { places ≤ length outs.old }
+    requires { CanStepFront sim.old.netlist enables.now dins.now outs.old places }
     ensures netlist { sim.new.netlist ≡ sim.old.netlist }
     ensures outs { length outs.new ≡ length outs.old }
-    ensures ok { OnOk result (BatchRan sim.old.netlist (batch_clocks sim.old.netlist enables.now dins.now)
-        sim.old.contents sim.new.contents (take places outs.new)) }
-    ensures stop { IfErr result (StopsBatch sim.old.netlist (batch_clocks sim.old.netlist enables.now dins.now) sim.old.contents) }
+    ensures ok { OnOk result (MachineRan sim.old sim.new (clocks_for sim.old enables.now dins.now)
+        (take places outs.new)) }
+    ensures stop { IfErr result
+        (StopsBatch sim.old.netlist (clocks_for sim.old enables.now dins.now) sim.old.contents) }
 {
     sim.step_batch(enables, dins, &mut outs[..places])
 }
@@ -110,15 +106,13 @@ fn step_front(
     outs: &mut Vec<Out>,
     places: usize,
 ) -> Result<(), Stop>
-    requires fit { All (λ (c : Clock). Fit (din_widths sim.old.netlist) c.dins) (batch_clocks sim.old.netlist enables.now dins.now) }
-    requires all { length dins.now ≡ length enables.now * length (din_widths sim.old.netlist) }
-    requires places { places ≡ length enables.now * output_count sim.old.netlist }
-    requires room { places ≤ length outs.old.items }
+    requires { CanStepFront sim.old.netlist enables.now dins.now outs.old.items places }
     ensures netlist { sim.new.netlist ≡ sim.old.netlist }
     ensures outs { length outs.new.items ≡ length outs.old.items }
-    ensures ok { OnOk result (BatchRan sim.old.netlist (batch_clocks sim.old.netlist enables.now dins.now)
-        sim.old.contents sim.new.contents (take places outs.new.items)) }
-    ensures stop { IfErr result (StopsBatch sim.old.netlist (batch_clocks sim.old.netlist enables.now dins.now) sim.old.contents) }
+    ensures ok { OnOk result (MachineRan sim.old sim.new (clocks_for sim.old enables.now dins.now)
+        (take places outs.new.items)) }
+    ensures stop { IfErr result
+        (StopsBatch sim.old.netlist (clocks_for sim.old enables.now dins.now) sim.old.contents) }
 {
     step_within(sim, enables, dins, outs, places)
 }
@@ -126,10 +120,10 @@ fn step_front(
 // Adds the pixel of this number of each input.
 fn push_pixels(rounds: &[Round], area: usize, number: u64, inputs: usize, dins: &mut Vec<u64>)
     requires area { 0 < area }
-    requires frames { (widths : List ℕ) × (size : Size) × AreBenchFrames widths size rounds.now × (inputs ≡ length widths) × (area ≡ area_of size) }
+    requires frames { (widths : List ℕ) × (size : Size) × AreBenchFrames widths size rounds.now
+        × (inputs ≡ length widths) × (area ≡ area_of size) }
     requires room { length dins.old.items + inputs ≤ vec_capacity dins.old }
-    ensures is { dins.new.items ≡ dins.old.items ++ dins_at inputs (rounds_of rounds.now) number }
-    ensures room { vec_capacity dins.new ≡ vec_capacity dins.old }
+    ensures { Appends dins.old dins.new (dins_at inputs (rounds_of rounds.now) number) }
 {
     for input in 0..inputs {
         dins.push_reserved(pixel(rounds, area, input, number));
@@ -139,8 +133,7 @@ fn push_pixels(rounds: &[Round], area: usize, number: u64, inputs: usize, dins: 
 // Adds these numbers.
 fn push_all(numbers: &[u64], dins: &mut Vec<u64>)
     requires room { length dins.old.items + length numbers.now ≤ vec_capacity dins.old }
-    ensures is { dins.new.items ≡ dins.old.items ++ numbers.now }
-    ensures room { vec_capacity dins.new ≡ vec_capacity dins.old }
+    ensures { Appends dins.old dins.new numbers.now }
 {
     for number in numbers {
         dins.push_reserved(*number);
@@ -149,16 +142,14 @@ fn push_all(numbers: &[u64], dins: &mut Vec<u64>)
 
 // Adds the clock of this number, in which each din has its pixel of that number.
 fn push_pixel_clock(batch: &mut Batch, feed: &Feed, rounds: &[Round], number: u64)
-    requires fed { (m : Netlist) × (size : Size) × IsFed m size feed.now rounds.now }
-    requires enables { length batch.old.enables.items + 1 ≤ vec_capacity batch.old.enables }
-    requires dins { length batch.old.dins.items + length feed.now.held.items ≤ vec_capacity batch.old.dins }
-    requires whole { length batch.old.dins.items ≡ length batch.old.enables.items * length feed.now.held.items }
-    ensures clocks { clocks_with (length feed.now.held.items) batch.new.enables.items batch.new.dins.items
-        ≡ clocks_with (length feed.now.held.items) batch.old.enables.items batch.old.dins.items
+    requires fed { (m : Netlist) × IsFedTo m feed.now rounds.now }
+    requires places { HasPlacesFor 1 (length feed.now.held.items) batch.old }
+    ensures clocks { clocks_in (length feed.now.held.items) batch.new
+        ≡ clocks_in (length feed.now.held.items) batch.old
         ++ pixel_clock (length feed.now.held.items) (rounds_of rounds.now) number ∷ [] }
     ensures count { length batch.new.enables.items ≡ length batch.old.enables.items + 1 }
-    ensures whole { length batch.new.dins.items ≡ length batch.new.enables.items * length feed.now.held.items }
-    ensures room { KeepsRoom batch.old batch.new }
+    ensures given { IsGiven (length feed.now.held.items) (length batch.old.enables.items + 1)
+        batch.old batch.new }
 {
     batch.enables.push_reserved(true);
     push_pixels(rounds, feed.area, number, feed.held.len(), &mut batch.dins);
@@ -166,15 +157,11 @@ fn push_pixel_clock(batch: &mut Batch, feed: &Feed, rounds: &[Round], number: u6
 
 // Adds a held clock, where one comes now.
 fn push_held_clock(batch: &mut Batch, comes: bool, held: &[u64])
-    requires enables { length batch.old.enables.items + 1 ≤ vec_capacity batch.old.enables }
-    requires dins { length batch.old.dins.items + length held.now ≤ vec_capacity batch.old.dins }
-    requires whole { length batch.old.dins.items ≡ length batch.old.enables.items * length held.now }
-    ensures clocks { clocks_with (length held.now) batch.new.enables.items batch.new.dins.items
-        ≡ clocks_with (length held.now) batch.old.enables.items batch.old.dins.items
+    requires places { HasPlacesFor 1 (length held.now) batch.old }
+    ensures clocks { clocks_in (length held.now) batch.new ≡ clocks_in (length held.now) batch.old
         ++ (if comes then record { reset = false; enable = false; dins = held.now } ∷ [] else []) }
-    ensures count { length batch.new.enables.items ≤ length batch.old.enables.items + 1 }
-    ensures whole { length batch.new.dins.items ≡ length batch.new.enables.items * length held.now }
-    ensures room { KeepsRoom batch.old batch.new }
+    ensures given { IsGiven (length held.now) (length batch.old.enables.items + 1) batch.old
+        batch.new }
 {
     if comes {
         batch.enables.push_reserved(false);
@@ -184,18 +171,15 @@ fn push_held_clock(batch: &mut Batch, comes: bool, held: &[u64])
 
 // Adds the clock of this number and the held one after it, if one follows.
 fn push_clocks(batch: &mut Batch, feed: &Feed, rounds: &[Round], number: u64, follows: bool)
-    requires fed { (m : Netlist) × (size : Size) × IsFed m size feed.now rounds.now }
+    requires fed { (m : Netlist) × IsFedTo m feed.now rounds.now }
     requires follows { follows ≡ is_held_after feed.now.hold number }
-    requires enables { length batch.old.enables.items + 2 ≤ vec_capacity batch.old.enables }
-    requires dins { length batch.old.dins.items + 2 * length feed.now.held.items ≤ vec_capacity batch.old.dins }
-    requires whole { length batch.old.dins.items ≡ length batch.old.enables.items * length feed.now.held.items }
+    requires places { HasPlacesFor 2 (length feed.now.held.items) batch.old }
     ensures clocks { (m : Netlist) (size : Size) → IsFed m size feed.now rounds.now
-        → clocks_with (length feed.now.held.items) batch.new.enables.items batch.new.dins.items
-        ≡ clocks_with (length feed.now.held.items) batch.old.enables.items batch.old.dins.items
+        → clocks_in (length feed.now.held.items) batch.new
+        ≡ clocks_in (length feed.now.held.items) batch.old
         ++ clocks_at feed.now.hold (din_widths m) (rounds_of rounds.now) number }
-    ensures count { length batch.new.enables.items ≤ length batch.old.enables.items + 2 }
-    ensures whole { length batch.new.dins.items ≡ length batch.new.enables.items * length feed.now.held.items }
-    ensures room { KeepsRoom batch.old batch.new }
+    ensures given { IsGiven (length feed.now.held.items) (length batch.old.enables.items + 2)
+        batch.old batch.new }
 {
     push_pixel_clock(batch, feed, rounds, number);
     push_held_clock(batch, follows, &feed.held);
@@ -213,17 +197,15 @@ fn clear(batch: &mut Batch)
 
 // Makes a batch of this many clocks, counted from this one, with the held ones between them.
 pub(crate) fn fill_batch(batch: &mut Batch, feed: &Feed, rounds: &[Round], start: u64, count: u64)
-    requires fed { (m : Netlist) × (size : Size) × IsFed m size feed.now rounds.now }
+    requires fed { (m : Netlist) × IsFedTo m feed.now rounds.now }
     requires start { start < 2 ^ 60 }
     requires count { count ≤ BATCH_PIXELS }
     requires enables { 2 * BATCH_PIXELS ≤ vec_capacity batch.old.enables }
     requires dins { 2 * BATCH_PIXELS * length feed.now.held.items ≤ vec_capacity batch.old.dins }
     ensures clocks { (m : Netlist) (size : Size) → IsFed m size feed.now rounds.now
-        → clocks_with (length feed.now.held.items) batch.new.enables.items batch.new.dins.items
-        ≡ flat_map (clocks_at feed.now.hold (din_widths m) (rounds_of rounds.now)) (range_with_len start count) }
-    ensures count { length batch.new.enables.items ≤ 2 * count }
-    ensures whole { length batch.new.dins.items ≡ length batch.new.enables.items * length feed.now.held.items }
-    ensures room { KeepsRoom batch.old batch.new }
+        → clocks_in (length feed.now.held.items) batch.new
+        ≡ pixel_clocks m feed.now rounds.now start count }
+    ensures given { IsGiven (length feed.now.held.items) (2 * count) batch.old batch.new }
 {
     clear(batch);
     let mut left = clocks_left(feed.hold, start);

@@ -1,22 +1,18 @@
 // The run of a module on a test bench.
 
-ghost use Rattle.std.specs.Prelude.{◌≡◌, ℕ, ◌+◌, ◌*◌, ◌^◌, ◌<◌, ◌≤◌, ◌++◌, [], List, length, Bool, IfOk, IfErr, OnOk, IfSome, All, Some, slice_get, vec_capacity};
+ghost use Rattle.std.specs.Prelude.{◌≡◌, ℕ, ◌+◌, ◌*◌, ◌^◌, ◌<◌, ◌≤◌, ◌++◌, List, length, Bool, IfOk, IfErr, OnOk, IfSome, Some};
 ghost use Rattle.std.specs.Option.{option_map};
 ghost use Rattle.dk_base.specs.Frames.{area as area_of};
 ghost use Rattle.dk_base.specs.FrameSizes.{size_of};
-ghost use Rattle.dk_desk.specs.Outside.{Outside};
 ghost use Rattle.dk_desk.specs.Calls.{IsIfTold};
-ghost use Rattle.std.specs.List.{flat_map, range_with_len};
 ghost use Rattle.dk_base.specs.declared.TheConstants.{MAX_FILE_IMAGES};
 ghost use Rattle.pgm_codec.specs.Images.{file_of};
-ghost use Rattle.cycle_sim.specs.Filled.{filled_contents};
 ghost use Rattle.cycle_sim.specs.Ports.{din_widths};
-ghost use Rattle.stimulus.specs.Stimulus.{greatest_dins};
 ghost use Rattle.stimulus.specs.Given.{rounds_of, AreBenchFrames};
-ghost use Rattle.stimulus.specs.Showing.{asked as asked_of, IsShown, IsNoted};
+ghost use Rattle.stimulus.specs.Showing.{IsShown, IsNoted};
 ghost use Rattle.stimulus.specs.Stops.{IsBenchEnd};
-ghost use Rattle.test_bench.specs.Clocking.{IsBench, AreKept};
-ghost use Rattle.test_bench.specs.Writing.{HasEnough, round_kept};
+ghost use Rattle.test_bench.specs.Clocking.{ArePlain, IsSetUp, OnlyNotes};
+ghost use Rattle.test_bench.specs.Writing.{HasEnough, rounds_kept};
 ghost use Rattle.test_bench.specs.Filling.{AreFilled, IsShort};
 
 use crate::batch::Batch;
@@ -46,9 +42,7 @@ fn no_outs(alloc: Global, count: usize) -> Result<Vec<Out>, OutOfMemory>
 
 // `count` pictures without samples, with room for `most` samples each.
 fn no_pictures(alloc: Global, count: usize, most: usize) -> Result<Vec<Shown>, OutOfMemory>
-    ensures count { IfOk result (λ pictures. length pictures.items ≡ count) }
-    ensures kept { IfOk result (λ pictures. AreKept most [] pictures.items) }
-    ensures room { IfOk result (λ pictures. All (λ shown. most ≤ vec_capacity shown.samples) pictures.items) }
+    ensures { IfOk result (λ pictures. ArePlain most count pictures.items) }
 {
     let mut pictures = Vec::with_capacity(alloc, count)?;
     for _ in 0..count {
@@ -60,12 +54,7 @@ fn no_pictures(alloc: Global, count: usize, most: usize) -> Result<Vec<Shown>, O
 
 /// A bench with this module, before the first clock, which keeps the first `most` samples of each picture.
 pub fn set_up(alloc: Global, module: &Module, fill: Fill, most: usize) -> Result<Bench, OutOfMemory>
-    ensures bench { IfOk result IsBench }
-    ensures netlist { IfOk result (λ bench. bench.sim.netlist ≡ «module».now.netlist) }
-    ensures contents { IfOk result (λ bench. bench.sim.contents ≡ filled_contents fill «module».now.netlist) }
-    ensures most { IfOk result (λ bench. bench.most ≡ most) }
-    ensures made { IfOk result (λ bench. bench.made ≡ 0) }
-    ensures kept { IfOk result (λ bench. AreKept most [] bench.pictures.items) }
+    ensures { IfOk result (IsSetUp «module».now.netlist fill most) }
 {
     let _wiring = module.wiring();
     let _order = module.order();
@@ -94,8 +83,9 @@ fn finish(
 ) -> Result<Vec<u8>, BenchFault>
     requires rounds { rounds ≤ MAX_FILE_IMAGES }
     requires filled { AreFilled (size_of size) ports.now rounds pictures.now }
-    ensures file { IfOk result (λ file. ((k : ℕ) → HasEnough pictures.now (rounds * area_of (size_of size)) k)
-        × (file.items ≡ file_of (flat_map (round_kept (size_of size) ports.now pictures.now) (range_with_len 0 rounds)))) }
+    ensures file { IfOk result
+        (λ file. ((k : ℕ) → HasEnough pictures.now (rounds * area_of (size_of size)) k)
+        × (file.items ≡ file_of (rounds_kept (size_of size) ports.now pictures.now rounds))) }
     ensures short { IfErr result (IsShort pictures.now (rounds * area_of (size_of size))) }
 {
     let wanted = (rounds * area(size)) as u64;
@@ -120,11 +110,15 @@ pub fn run_bench<D: Desk>(
     requires hold { IfSome drive.hold (λ count. 0 < count) }
     requires clocks { drive.clocks < 2 ^ 60 }
     requires frames { AreBenchFrames (din_widths «module».now.netlist) (size_of size) rounds.now }
-    ensures only { D.outside desk.new ≡ record (D.outside desk.old) { notes = (D.outside desk.new).notes } }
-    ensures file { IfOk result (λ file. IsShown «module».now.netlist drive (size_of size) (rounds_of rounds.now) file.items) }
-    ensures notes { OnOk result ((notes : List (Bool × ℕ)) × IsNoted «module».now.netlist drive (rounds_of rounds.now) notes
-        × IsIfTold (D.outside desk.new).notes (option_map (λ before. before ++ notes) (D.outside desk.old).notes)) }
-    ensures stop { IfErr result (λ f. IsBenchEnd «module».now.netlist drive (size_of size) (rounds_of rounds.now) f) }
+    ensures only { OnlyNotes (D.outside desk.old) (D.outside desk.new) }
+    ensures file { IfOk result (λ file.
+        IsShown «module».now.netlist drive (size_of size) (rounds_of rounds.now) file.items) }
+    ensures notes { OnOk result
+        ((notes : List (Bool × ℕ)) × IsNoted «module».now.netlist drive (rounds_of rounds.now) notes
+        × IsIfTold (D.outside desk.new).notes
+        (option_map (λ before. before ++ notes) (D.outside desk.old).notes)) }
+    ensures stop { IfErr result
+        (λ f. IsBenchEnd «module».now.netlist drive (size_of size) (rounds_of rounds.now) f) }
 {
     let wiring = module.wiring();
     let widths = dins_of(module);

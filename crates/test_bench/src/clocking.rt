@@ -1,19 +1,14 @@
 // The clocks of a test bench.
 
-ghost use Rattle.std.specs.Prelude.{◌≡◌, ℕ, ◌+◌, ◌*◌, ◌^◌, ◌<◌, ◌≤◌, ◌++◌, [], ◌∷◌, List, take, length, IfErr, OnOk, Some, slice_get, vec_capacity, pos, ◌-ℤ◌};
-ghost use Rattle.std.specs.List.{All, flat_map, range_with_len};
-ghost use Rattle.dk_base.specs.declared.TheConstants.{MAX_PORT_WIDTH};
-ghost use Rattle.dk_base.specs.Frames.{Size};
+ghost use Rattle.std.specs.Prelude.{◌≡◌, ◌+◌, ◌*◌, ◌^◌, ◌<◌, ◌≤◌, ◌++◌, [], ◌∷◌, List, length, IfErr, OnOk, pos, ◌-ℤ◌};
+ghost use Rattle.std.specs.List.{All};
 ghost use Rattle.wiring.specs.Snapshot.{Snapshot, Fit};
-ghost use Rattle.wiring.specs.Clock.{Clock, given, Steps, Stops};
 ghost use Rattle.test_bench.specs.declared.batch.TheConstants.{BATCH_PIXELS};
-ghost use Rattle.test_bench.specs.BatchClocks.{AreShownIn, Extends, HasClocks, clocks_of, sample_of, pairs_of};
-ghost use Rattle.cycle_sim.specs.declared.ports.Out.{Out as Ports};
+ghost use Rattle.test_bench.specs.BatchClocks.{AddsShown, ArePictures, AreShownIn, DoutsAreSmall, HasClocks, clocks_of, pairs_of};
 ghost use Rattle.cycle_sim.specs.Ports.{din_widths, AreShown};
-ghost use Rattle.test_bench.specs.declared.picture.Shown.{Shown as Picture};
-ghost use Rattle.stimulus.specs.Stimulus.{reset_clock, clocks_at};
-ghost use Rattle.stimulus.specs.Given.{rounds_of};
-ghost use Rattle.test_bench.specs.Clocking.{AreKept, GoOn, IsBench, Clocked, StopsIn, IsFed};
+ghost use Rattle.cycle_sim.specs.Simulated.{GoesOn, StopsIn as StopsMachine, clock as clock_of};
+ghost use Rattle.stimulus.specs.Stimulus.{reset_clock};
+ghost use Rattle.test_bench.specs.Clocking.{whole_drive, AreKept, CanDrive, Drives, DrivesPixels, GoOn, HaveRoomFor, IsBench, OnlyNotes};
 
 use crate::batch::{BATCH_PIXELS, Batch, fill_batch};
 use crate::picture::Shown;
@@ -64,17 +59,16 @@ fn step(
     ensures netlist { sim.new.netlist ≡ sim.old.netlist }
     ensures count { length outs.new.items ≡ length outs.old.items }
     ensures ok { OnOk result ((s : Snapshot)
-        × Steps sim.old.netlist sim.old.contents (given sim.old.netlist (record { reset = reset; enable = enable; dins = dins.now })) s sim.new.contents
-        × AreShown s outs.new.items) }
-    ensures stops { IfErr result (λ r. Stops sim.old.netlist sim.old.contents
-        (given sim.old.netlist (record { reset = reset; enable = enable; dins = dins.now })) r.array r.index) }
+        × GoesOn sim.old (clock_of reset enable dins.now) s sim.new × AreShown s outs.new.items) }
+    ensures stops { IfErr result
+        (λ r. StopsMachine sim.old (clock_of reset enable dins.now) r.array r.index) }
 {
     sim.step_all(reset, enable, dins, outs)
 }
 
 // Notes the pair of each output at the desk, clock for clock.
 fn tell<D: Desk>(desk: &mut D, outs: &[Out])
-    ensures only { D.outside desk.new ≡ record (D.outside desk.old) { notes = (D.outside desk.new).notes } }
+    ensures only { OnlyNotes (D.outside desk.old) (D.outside desk.new) }
     ensures notes { GoOn (D.outside desk.old).notes (pairs_of outs.now) (D.outside desk.new).notes }
 {
     for out in outs {
@@ -84,13 +78,10 @@ fn tell<D: Desk>(desk: &mut D, outs: &[Out])
 
 // Adds what each output shows to its picture.
 fn show(pictures: &mut Vec<Shown>, most: usize, outs: &[Out])
-    requires count { length pictures.old.items ≡ length outs.now }
-    requires room { All (λ shown. most ≤ vec_capacity shown.samples) pictures.old.items }
-    requires douts { All (λ out. out.dout < 2 ^ MAX_PORT_WIDTH) outs.now }
-    ensures count { length pictures.new.items ≡ length outs.now }
-    ensures room { All (λ shown. most ≤ vec_capacity shown.samples) pictures.new.items }
-    ensures kept { (k : ℕ) (old new : Picture) (out : Ports) → slice_get pictures.old.items k ≡ Some old → slice_get pictures.new.items k ≡ Some new
-        → slice_get outs.now k ≡ Some out → Extends most old new (sample_of out) }
+    requires pictures { ArePictures most (length outs.now) pictures.old.items }
+    requires douts { DoutsAreSmall outs.now }
+    ensures pictures { ArePictures most (length outs.now) pictures.new.items }
+    ensures kept { AddsShown most pictures.old.items pictures.new.items outs.now }
 {
     for k in 0..outs.len() {
         pictures[k].add(most, outs[k]);
@@ -108,11 +99,8 @@ pub fn clock<D: Desk>(
     requires bench { IsBench bench.old }
     requires dins { Fit (din_widths bench.old.sim.netlist) dins.now }
     requires few { bench.old.made < 2 ^ 62 }
-    ensures only { D.outside desk.new ≡ record (D.outside desk.old) { notes = (D.outside desk.new).notes } }
-    ensures ok { OnOk result (Clocked bench.old.sim.netlist (record { reset = reset; enable = enable; dins = dins.now } ∷ [])
-        bench.old bench.new (D.outside desk.old).notes (D.outside desk.new).notes) }
-    ensures stop { IfErr result (StopsIn bench.old.sim.netlist bench.old.sim.contents
-        bench.old.made (record { reset = reset; enable = enable; dins = dins.now } ∷ [])) }
+    ensures { Drives (clock_of reset enable dins.now ∷ []) bench.old bench.new
+        (D.outside desk.old) (D.outside desk.new) result }
 {
     bench.sim.law();
     netlist::values_fit_law();
@@ -134,11 +122,11 @@ pub fn clock<D: Desk>(
 // Adds what each output shows in each of these clocks to its picture. The outputs of a clock follow those of the clock before.
 fn show_all(pictures: &mut Vec<Shown>, most: usize, outs: &[Out], count: usize)
     requires places { length outs.now ≡ count * length pictures.old.items }
-    requires room { All (λ shown. most ≤ vec_capacity shown.samples) pictures.old.items }
-    requires douts { All (λ out. out.dout < 2 ^ MAX_PORT_WIDTH) outs.now }
-    ensures count { length pictures.new.items ≡ length pictures.old.items }
-    ensures room { All (λ shown. most ≤ vec_capacity shown.samples) pictures.new.items }
-    ensures kept { (shots all : List Snapshot) → length shots ≡ count → AreShownIn (length pictures.old.items) shots outs.now
+    requires room { HaveRoomFor most pictures.old.items }
+    requires douts { DoutsAreSmall outs.now }
+    ensures pictures { ArePictures most (length pictures.old.items) pictures.new.items }
+    ensures kept { (shots all : List Snapshot) → length shots ≡ count
+        → AreShownIn (length pictures.old.items) shots outs.now
         → AreKept most all pictures.old.items → AreKept most (all ++ shots) pictures.new.items }
 {
     let ports = pictures.len();
@@ -166,11 +154,8 @@ fn clock_batch<D: Desk>(desk: &mut D, bench: &mut Bench) -> Result<(), Stop>
     requires bench { IsBench bench.old }
     requires clocks { HasClocks bench.old.sim.netlist bench.old.batch }
     requires few { bench.old.made < 2 ^ 62 }
-    ensures only { D.outside desk.new ≡ record (D.outside desk.old) { notes = (D.outside desk.new).notes } }
-    ensures ok { OnOk result (Clocked bench.old.sim.netlist (clocks_of bench.old.sim.netlist bench.old.batch)
-        bench.old bench.new (D.outside desk.old).notes (D.outside desk.new).notes) }
-    ensures stop { IfErr result (StopsIn bench.old.sim.netlist bench.old.sim.contents bench.old.made
-        (clocks_of bench.old.sim.netlist bench.old.batch)) }
+    ensures { Drives (clocks_of bench.old.sim.netlist bench.old.batch) bench.old bench.new
+        (D.outside desk.old) (D.outside desk.new) result }
 {
     bench.sim.law();
     netlist::values_fit_law();
@@ -200,18 +185,12 @@ fn some_pixel_clocks<D: Desk>(
     start: u64,
     count: u64,
 ) -> Result<(), Stop>
-    requires bench { IsBench bench.old }
-    requires fed { (size : Size) × IsFed bench.old.sim.netlist size feed.now rounds.now }
+    requires drive { CanDrive bench.old feed.now rounds.now }
     requires few { bench.old.made < 2 ^ 62 }
     requires start { start < 2 ^ 60 }
     requires count { count ≤ BATCH_PIXELS }
-    ensures few { OnOk result (bench.new.made ≤ bench.old.made + 2 * count) }
-    ensures only { D.outside desk.new ≡ record (D.outside desk.old) { notes = (D.outside desk.new).notes } }
-    ensures ok { OnOk result (Clocked bench.old.sim.netlist
-        (flat_map (clocks_at feed.now.hold (din_widths bench.old.sim.netlist) (rounds_of rounds.now)) (range_with_len start count))
-        bench.old bench.new (D.outside desk.old).notes (D.outside desk.new).notes) }
-    ensures stop { IfErr result (StopsIn bench.old.sim.netlist bench.old.sim.contents bench.old.made
-        (flat_map (clocks_at feed.now.hold (din_widths bench.old.sim.netlist) (rounds_of rounds.now)) (range_with_len start count))) }
+    ensures { DrivesPixels feed.now rounds.now start count bench.old bench.new
+        (D.outside desk.old) (D.outside desk.new) result }
 {
     fill_batch(&mut bench.batch, feed, rounds, start, count);
     clock_batch(desk, bench)
@@ -225,17 +204,11 @@ fn whole_batches<D: Desk>(
     rounds: &[Round],
     batches: u64,
 ) -> Result<(), Stop>
-    requires bench { IsBench bench.old }
-    requires fed { (size : Size) × IsFed bench.old.sim.netlist size feed.now rounds.now }
+    requires drive { CanDrive bench.old feed.now rounds.now }
     requires made { bench.old.made ≤ 1 }
     requires batches { batches * BATCH_PIXELS < 2 ^ 60 }
-    ensures few { OnOk result (bench.new.made ≤ bench.old.made + 2 * (batches * BATCH_PIXELS)) }
-    ensures only { D.outside desk.new ≡ record (D.outside desk.old) { notes = (D.outside desk.new).notes } }
-    ensures ok { OnOk result (Clocked bench.old.sim.netlist
-        (flat_map (clocks_at feed.now.hold (din_widths bench.old.sim.netlist) (rounds_of rounds.now)) (range_with_len 0 (batches * BATCH_PIXELS)))
-        bench.old bench.new (D.outside desk.old).notes (D.outside desk.new).notes) }
-    ensures stop { IfErr result (StopsIn bench.old.sim.netlist bench.old.sim.contents bench.old.made
-        (flat_map (clocks_at feed.now.hold (din_widths bench.old.sim.netlist) (rounds_of rounds.now)) (range_with_len 0 (batches * BATCH_PIXELS)))) }
+    ensures { DrivesPixels feed.now rounds.now 0 (batches * BATCH_PIXELS) bench.old bench.new
+        (D.outside desk.old) (D.outside desk.new) result }
 {
     for batch in 0..batches {
         some_pixel_clocks(
@@ -258,17 +231,11 @@ fn all_pixel_clocks<D: Desk>(
     rounds: &[Round],
     clocks: u64,
 ) -> Result<(), Stop>
-    requires bench { IsBench bench.old }
-    requires fed { (size : Size) × IsFed bench.old.sim.netlist size feed.now rounds.now }
+    requires drive { CanDrive bench.old feed.now rounds.now }
     requires made { bench.old.made ≤ 1 }
     requires clocks { clocks < 2 ^ 60 }
-    ensures few { OnOk result (bench.new.made ≤ bench.old.made + 2 * clocks) }
-    ensures only { D.outside desk.new ≡ record (D.outside desk.old) { notes = (D.outside desk.new).notes } }
-    ensures ok { OnOk result (Clocked bench.old.sim.netlist
-        (flat_map (clocks_at feed.now.hold (din_widths bench.old.sim.netlist) (rounds_of rounds.now)) (range_with_len 0 clocks))
-        bench.old bench.new (D.outside desk.old).notes (D.outside desk.new).notes) }
-    ensures stop { IfErr result (StopsIn bench.old.sim.netlist bench.old.sim.contents bench.old.made
-        (flat_map (clocks_at feed.now.hold (din_widths bench.old.sim.netlist) (rounds_of rounds.now)) (range_with_len 0 clocks))) }
+    ensures { DrivesPixels feed.now rounds.now 0 clocks bench.old bench.new
+        (D.outside desk.old) (D.outside desk.new) result }
 {
     let batches = clocks / BATCH_PIXELS;
     whole_batches(desk, bench, feed, rounds, batches)?;
@@ -286,20 +253,13 @@ pub fn all_clocks<D: Desk>(
     clocks: u64,
     dins: &[u64],
 ) -> Result<(), Stop>
-    requires bench { IsBench bench.old }
-    requires fed { (size : Size) × IsFed bench.old.sim.netlist size feed.now rounds.now }
+    requires drive { CanDrive bench.old feed.now rounds.now }
     requires dins { dins.now ≡ (reset_clock (length (din_widths bench.old.sim.netlist))).dins }
     requires made { bench.old.made ≡ 0 }
     requires clocks { clocks < 2 ^ 60 }
     ensures few { OnOk result (bench.new.made < 2 ^ 62) }
-    ensures only { D.outside desk.new ≡ record (D.outside desk.old) { notes = (D.outside desk.new).notes } }
-    ensures ok { OnOk result (Clocked bench.old.sim.netlist
-        (reset_clock (length (din_widths bench.old.sim.netlist))
-        ∷ flat_map (clocks_at feed.now.hold (din_widths bench.old.sim.netlist) (rounds_of rounds.now)) (range_with_len 0 clocks))
-        bench.old bench.new (D.outside desk.old).notes (D.outside desk.new).notes) }
-    ensures stop { IfErr result (StopsIn bench.old.sim.netlist bench.old.sim.contents bench.old.made
-        (reset_clock (length (din_widths bench.old.sim.netlist))
-        ∷ flat_map (clocks_at feed.now.hold (din_widths bench.old.sim.netlist) (rounds_of rounds.now)) (range_with_len 0 clocks))) }
+    ensures drives { Drives (whole_drive bench.old.sim.netlist feed.now rounds.now clocks)
+        bench.old bench.new (D.outside desk.old) (D.outside desk.new) result }
 {
     clock(desk, bench, true, true, dins)?;
     all_pixel_clocks(desk, bench, feed, rounds, clocks)?;

@@ -1,6 +1,6 @@
 // What the outputs show.
 
-ghost use Rattle.std.specs.Prelude.{◌≡◌, ℕ, ◌+◌, ◌^◌, ◌<◌, ◌≤◌, ◌++◌, [], ◌∷◌, List, length, min, take, IfOk, All, vec_capacity, if◌then◌else◌};
+ghost use Rattle.std.specs.Prelude.{ℕ, ◌+◌, ◌^◌, ◌<◌, ◌≤◌, ◌++◌, [], ◌∷◌, List, IfOk, vec_capacity, if◌then◌else◌};
 ghost use Rattle.dk_base.specs.declared.TheConstants.{MAX_PORT_WIDTH};
 ghost use Rattle.test_bench.specs.Clocking.{IsKept};
 
@@ -32,7 +32,8 @@ impl Shown {
         requires room { most ≤ vec_capacity self.old.samples }
         requires dout { out.dout < 2 ^ MAX_PORT_WIDTH }
         ensures room { most ≤ vec_capacity self.new.samples }
-        ensures kept { (whole : List ℕ) → IsKept most whole self.old → IsKept most (whole ++ (if out.valid then out.dout ∷ [] else [])) self.new }
+        ensures kept { (whole : List ℕ) → IsKept most whole self.old
+            → IsKept most (whole ++ (if out.valid then out.dout ∷ [] else [])) self.new }
     {
         if out.valid {
             self.count = self.count.saturating_add(1);

@@ -1,14 +1,13 @@
 // The file of the pictures.
 
-ghost use Rattle.std.specs.Prelude.{◌≡◌, ℕ, ◌+◌, ◌*◌, ◌-◌, ◌^◌, ◌<◌, ◌≤◌, ◌++◌, length, take, drop, IfOk, OnOk, MatchOption, MatchBool, slice_index};
-ghost use Rattle.std.specs.List.{flat_map, range_with_len};
+ghost use Rattle.std.specs.Prelude.{◌≡◌, ℕ, ◌+◌, ◌*◌, ◌-◌, ◌^◌, ◌<◌, ◌≤◌, ◌++◌, length, take, drop, IfOk, OnOk, MatchOption, MatchBool};
 ghost use Rattle.dk_base.specs.declared.TheConstants.{MAX_FILE_IMAGES, MAX_SIDE};
 ghost use Rattle.dk_base.specs.Frames.{area as area_of};
 ghost use Rattle.dk_base.specs.FrameSizes.{size_of};
 ghost use Rattle.wiring.specs.Rules.{IsPortWidth};
 ghost use Rattle.pgm_codec.specs.Images.{header_of, raster_of, file_of};
 ghost use Rattle.stimulus.specs.Showing.{IsEnough};
-ghost use Rattle.test_bench.specs.Writing.{HasEnough, IsFirstShort, AreWhole, image_kept, round_kept};
+ghost use Rattle.test_bench.specs.Writing.{HasEnough, HaveRound, IsFirstShort, AreWhole, image_kept, round_kept, rounds_kept};
 
 use crate::picture::Shown;
 use dk_base::{FrameSize, OutOfMemory};
@@ -38,7 +37,8 @@ fn is_enough(outputs: usize, asked: u64, shown: u64) -> bool
 
 /// What the first picture that has not shown enough has shown, if there is one.
 pub fn first_short(pictures: &[Shown], asked: u64) -> Option<u64>
-    ensures { MatchOption result ((k : ℕ) → HasEnough pictures.now asked k) (IsFirstShort pictures.now asked) }
+    ensures { MatchOption result ((k : ℕ) → HasEnough pictures.now asked k)
+        (IsFirstShort pictures.now asked) }
 {
     for k in 0..pictures.len() {
         let shown = pictures[k].count;
@@ -74,10 +74,12 @@ fn write_output(
     output: usize,
     file: &mut Vec<u8>,
 ) -> Result<(), OutOfMemory>
-    requires whole { (rounds : ℕ) × (round < rounds) × (rounds ≤ MAX_FILE_IMAGES) × AreWhole (size_of size) ports.now rounds pictures.now }
+    requires whole { HaveRound (size_of size) ports.now pictures.now round }
     requires output { output < length pictures.now }
-    ensures { OnOk result (let image = image_kept (size_of size) ports.now pictures.now round output in file.new.items
-        ≡ file.old.items ++ (header_of size.width size.height image.maxval ++ raster_of image.maxval image.samples)) }
+    ensures { OnOk result
+        (let image = image_kept (size_of size) ports.now pictures.now round output in file.new.items
+        ≡ file.old.items ++ (header_of size.width size.height image.maxval ++ raster_of image.maxval
+        image.samples)) }
 {
     let pixels = area(size);
     let maxval = greatest(ports[2 * output + 1]);
@@ -94,8 +96,9 @@ fn write_round(
     round: usize,
     file: &mut Vec<u8>,
 ) -> Result<(), OutOfMemory>
-    requires whole { (rounds : ℕ) × (round < rounds) × (rounds ≤ MAX_FILE_IMAGES) × AreWhole (size_of size) ports.now rounds pictures.now }
-    ensures { OnOk result (file.new.items ≡ file.old.items ++ file_of (round_kept (size_of size) ports.now pictures.now round)) }
+    requires whole { HaveRound (size_of size) ports.now pictures.now round }
+    ensures { OnOk result (file.new.items
+        ≡ file.old.items ++ file_of (round_kept (size_of size) ports.now pictures.now round)) }
 {
     for output in 0..pictures.len() {
         write_output(size, ports, pictures, round, output, file)?;
@@ -113,7 +116,8 @@ pub fn write_rounds(
 ) -> Result<Vec<u8>, OutOfMemory>
     requires rounds { rounds ≤ MAX_FILE_IMAGES }
     requires whole { AreWhole (size_of size) ports.now rounds pictures.now }
-    ensures { IfOk result (λ file. file.items ≡ file_of (flat_map (round_kept (size_of size) ports.now pictures.now) (range_with_len 0 rounds))) }
+    ensures { IfOk result (λ file. file.items
+        ≡ file_of (rounds_kept (size_of size) ports.now pictures.now rounds)) }
 {
     let mut file = Vec::new(alloc);
     for round in 0..rounds {

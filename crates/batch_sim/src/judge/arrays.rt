@@ -2,10 +2,8 @@
 
 ghost use Rattle.std.specs.Prelude.{◌≡◌, ℕ, ◌≢◌, ◌<◌, ◌≤◌, List, length, map, slice_index, slice_set, Some, IsTrue, IsFalse};
 ghost use Rattle.lane_rows.specs.Values.{numbers_in, values_of};
-ghost use Rattle.batch_rows.specs.Rights.{HasRow};
 ghost use Rattle.lane_rows.specs.Words.{AreInside};
-ghost use Rattle.batch_code.specs.Rows.{words_put, KeepsArray};
-ghost use Rattle.batch_sim.specs.Arrays.{HaveCount, AreNoted, AreAccessNumbers, IsPassed, IsArrayRoom, WasLost, PutsInside, HaveAccessRows, TakesBack};
+ghost use Rattle.batch_sim.specs.Arrays.{AreAccessNumbers, AreNoted, CanPass, CanUndo, HaveClocks, HaveCount, IsArrayRoom, IsPassed, IsUndone, PassesAccess, PassesArray, TriesArray, TriesNumbers};
 
 use crate::judge::registers::follows;
 use batch_rows::{WordPut, WordRead, atom_numbers, atom_words, note_words};
@@ -49,7 +47,8 @@ pub struct Accesses<'a> {
 // Whether words are the first numbers of a lane.
 pub fn are_same<V: Lane>(a: &[u64], b: &[V]) -> bool
     requires { length a.now ≤ length b.now }
-    ensures { IsTrue result → (t : ℕ) → t < length a.now → slice_index (map V.value b.now) t ≡ slice_index a.now t }
+    ensures { IsTrue result → (t : ℕ) → t < length a.now
+        → slice_index (map V.value b.now) t ≡ slice_index a.now t }
 {
     let mut same = true;
     for t in 0..a.len() {
@@ -78,13 +77,11 @@ fn pass_words<I: Lane, V: Lane>(
     all: &LaneNumbers<'_, I, V>,
 ) -> bool
     requires lost { length lost.old ≡ length to.old }
-    requires read { length all.now.read.now ≡ length to.old }
-    requires index { length all.now.index.now ≡ length to.old }
-    requires value { length all.now.value.now ≡ length to.old }
-    requires target { length all.now.target.now ≡ length to.old }
-    ensures passed { IsTrue result → IsPassed words.old words.new lost.new (map I.value all.now.read.now) (map I.value all.now.index.now)
-        (map V.value all.now.value.now) (map V.value all.now.target.now) (length to.old) }
-    ensures back { IsFalse result → words.new ≡ words.old }
+    requires rows { HaveClocks all.now.read.now all.now.index.now all.now.value.now
+        all.now.target.now (length to.old) }
+    ensures { TriesArray result words.old words.new lost.new (length to.old)
+        (map I.value all.now.read.now) (map I.value all.now.index.now)
+        (map V.value all.now.value.now) (map V.value all.now.target.now) }
 {
     let read = all.read;
     let index = all.index;
@@ -120,7 +117,8 @@ fn pass_one<V: Lane>(words: &mut [u64], lost: &mut [u64], value: &[V], target: &
     requires value { length value.now ≡ length lost.old }
     requires target { length target.now ≡ length lost.old }
     ensures passed { IsTrue result → (index : List ℕ) → AreInside (length lost.old) index 1
-        → IsPassed words.old words.new lost.new index index (map V.value value.now) (map V.value target.now) (length lost.old) }
+        → IsPassed words.old words.new lost.new index index (map V.value value.now)
+        (map V.value target.now) (length lost.old) }
     ensures back { IsFalse result → words.new ≡ words.old }
 {
     let count = lost.len();
@@ -143,11 +141,10 @@ fn pass_changes<I: Lane, V: Lane>(
     value: &[V],
     target: &[V],
 ) -> bool
-    requires index { length index.now ≡ length lost.old }
-    requires value { length value.now ≡ length lost.old }
-    requires target { length target.now ≡ length lost.old }
-    ensures passed { IsTrue result → IsPassed words.old words.new lost.new (map I.value index.now) (map I.value index.now) (map V.value value.now) (map V.value target.now) (length lost.old) }
-    ensures back { IsFalse result → words.new ≡ words.old }
+    requires { HaveClocks index.now index.now value.now target.now (length lost.old) }
+    ensures { TriesArray result words.old words.new lost.new (length lost.old)
+        (map I.value index.now) (map I.value index.now)
+        (map V.value value.now) (map V.value target.now) }
 {
     if !all_inside(index, words.len() as u64) {
         return false;
@@ -193,12 +190,10 @@ fn pass_values<I: Lane>(
     all: &AccessNumbers<'_>,
 ) -> bool
     requires lost { length lost.old ≡ length to.old }
-    requires read { length read.now ≡ length to.old }
-    requires index { length index.now ≡ length to.old }
-    requires value { length (numbers_in all.now.value) ≡ length to.old }
-    requires target { length (numbers_in all.now.target) ≡ length to.old }
-    ensures passed { IsTrue result → IsPassed words.old words.new lost.new (map I.value read.now) (map I.value index.now) (numbers_in all.now.value) (numbers_in all.now.target) (length to.old) }
-    ensures back { IsFalse result → words.new ≡ words.old }
+    requires rows { HaveClocks read.now index.now (numbers_in all.now.value)
+        (numbers_in all.now.target) (length to.old) }
+    ensures { TriesArray result words.old words.new lost.new (length to.old) (map I.value read.now)
+        (map I.value index.now) (numbers_in all.now.value) (numbers_in all.now.target) }
 {
     match (all.value, all.target) {
         (Numbers::Narrow(value), Numbers::Narrow(target)) => {
@@ -239,11 +234,11 @@ fn pass_changed_values<I: Lane>(
     index: &[I],
     all: &AccessNumbers<'_>,
 ) -> bool
-    requires index { length index.now ≡ length lost.old }
-    requires value { length (numbers_in all.now.value) ≡ length lost.old }
-    requires target { length (numbers_in all.now.target) ≡ length lost.old }
-    ensures passed { IsTrue result → IsPassed words.old words.new lost.new (map I.value index.now) (map I.value index.now) (numbers_in all.now.value) (numbers_in all.now.target) (length lost.old) }
-    ensures back { IsFalse result → words.new ≡ words.old }
+    requires { HaveClocks index.now index.now (numbers_in all.now.value) (numbers_in all.now.target)
+        (length lost.old) }
+    ensures { TriesArray result words.old words.new lost.new (length lost.old)
+        (map I.value index.now) (map I.value index.now)
+        (numbers_in all.now.value) (numbers_in all.now.target) }
 {
     match (all.value, all.target) {
         (Numbers::Narrow(value), Numbers::Narrow(target)) => {
@@ -268,8 +263,7 @@ fn pass_numbers(
 ) -> bool
     requires lost { length lost.old ≡ length to.old }
     requires counts { HaveCount all.now (length to.old) }
-    ensures passed { IsTrue result → IsPassed words.old words.new lost.new (numbers_in all.now.read) (numbers_in all.now.index) (numbers_in all.now.value) (numbers_in all.now.target) (length to.old) }
-    ensures back { IsFalse result → words.new ≡ words.old }
+    ensures { TriesNumbers result words.old words.new lost.new (length to.old) all.now }
 {
     match (all.read, all.index) {
         (Numbers::Narrow(read), Numbers::Narrow(index)) => {
@@ -287,9 +281,10 @@ fn pass_numbers(
 
 // The same of an array that is read where it is written.
 fn pass_changed_numbers(words: &mut [u64], lost: &mut [u64], all: &AccessNumbers<'_>) -> bool
-    requires counts { HaveCount all.now (length lost.old) }
-    ensures passed { IsTrue result → IsPassed words.old words.new lost.new (numbers_in all.now.index) (numbers_in all.now.index) (numbers_in all.now.value) (numbers_in all.now.target) (length lost.old) }
-    ensures back { IsFalse result → words.new ≡ words.old }
+    requires { HaveCount all.now (length lost.old) }
+    ensures { TriesArray result words.old words.new lost.new (length lost.old)
+        (numbers_in all.now.index) (numbers_in all.now.index) (numbers_in all.now.value)
+        (numbers_in all.now.target) }
 {
     match all.index {
         Numbers::Narrow(index) => pass_changed_values(words, lost, index, all),
@@ -336,8 +331,7 @@ fn note_access(
     put: &WordPut,
     count: usize,
 ) -> AccessSlots
-    requires rows { HaveAccessRows (values_of rows.now) count read.now put.now }
-    requires room { IsArrayRoom room.old count }
+    requires { CanPass (values_of rows.now) room.old read.now put.now count }
     ensures room { IsArrayRoom room.new count }
     ensures noted { AreNoted (values_of rows.now) count read.now put.now room.new result }
 {
@@ -361,8 +355,7 @@ fn numbers_of_access<'a>(
     put: &WordPut,
     count: usize,
 ) -> AccessNumbers<'a>
-    requires rows { HaveAccessRows (values_of rows.now) count read.now put.now }
-    requires room { IsArrayRoom room.now count }
+    requires pass { CanPass (values_of rows.now) room.now read.now put.now count }
     requires noted { AreNoted (values_of rows.now) count read.now put.now room.now slots }
     ensures counts { HaveCount result count }
     ensures rows { AreAccessNumbers (values_of rows.now) count read.now put.now result }
@@ -377,7 +370,6 @@ fn numbers_of_access<'a>(
 }
 
 // One array over this many clocks: true if its equations are kept, and its words are then those after them; else the words are as before.
-#[tactic(auto, using(crate::proofs::OnePass::numbers_kept, crate::proofs::OnePass::numbers_words, crate::proofs::OnePass::numbers_lost))]
 fn pass_rows(
     rows: &[Row],
     room: &mut ArrayRoom,
@@ -386,14 +378,12 @@ fn pass_rows(
     to: &mut [u64],
     lost: &mut [u64],
 ) -> bool
-    requires rows { HaveAccessRows (values_of rows.now) (length to.old) access.now.read.now access.now.put.now }
-    requires room { IsArrayRoom room.old (length to.old) }
+    requires pass { CanPass (values_of rows.now) room.old access.now.read.now access.now.put.now
+        (length to.old) }
     requires lost { length lost.old ≡ length to.old }
     ensures room { IsArrayRoom room.new (length to.old) }
-    ensures kept { IsTrue result → KeepsArray (values_of rows.now) (length to.old) words.old access.now.read.now access.now.put.now }
-    ensures words { IsTrue result → words.new ≡ words_put (values_of rows.now) access.now.put.now words.old (length to.old) }
-    ensures lost { IsTrue result → WasLost (values_of rows.now) access.now.put.now words.old lost.new (length to.old) }
-    ensures back { IsFalse result → words.new ≡ words.old }
+    ensures passed { PassesArray (values_of rows.now) access.now.read.now access.now.put.now
+        (length to.old) result words.old words.new lost.new }
 {
     let count = to.len();
     let read = access.read;
@@ -415,15 +405,13 @@ pub fn pass_first(
     to: &mut [u64],
     lost: &mut [u64],
 ) -> bool
-    requires rows { HaveAccessRows (values_of rows.now) access.now.count access.now.read.now access.now.put.now }
-    requires room { IsArrayRoom room.old access.now.count }
+    requires pass { CanPass (values_of rows.now) room.old access.now.read.now access.now.put.now
+        access.now.count }
     requires to { access.now.count ≤ length to.old }
     requires lost { access.now.count ≤ length lost.old }
     ensures room { IsArrayRoom room.new access.now.count }
-    ensures kept { IsTrue result → KeepsArray (values_of rows.now) access.now.count words.old access.now.read.now access.now.put.now }
-    ensures words { IsTrue result → words.new ≡ words_put (values_of rows.now) access.now.put.now words.old access.now.count }
-    ensures lost { IsTrue result → WasLost (values_of rows.now) access.now.put.now words.old lost.new access.now.count }
-    ensures back { IsFalse result → words.new ≡ words.old }
+    ensures passed { PassesAccess (values_of rows.now) access.now result words.old words.new
+        lost.new }
 {
     let to = to.split_at_mut(access.count).0;
     let lost = lost.split_at_mut(access.count).0;
@@ -454,13 +442,8 @@ fn undo_one(words: &mut [u64], lost: &[u64], count: usize)
 #[tactic(auto, using(crate::proofs::OnePass::puts_inside))]
 fn undo_words(rows: &[Row], room: &mut ArrayRoom, undo: &Undo<'_>, words: &mut [u64])
     requires several { length words.old ≢ 1 }
-    requires index { HasRow (values_of rows.now) undo.now.count undo.now.put.now.index }
-    requires value { HasRow (values_of rows.now) undo.now.count undo.now.put.now.value }
-    requires room { IsArrayRoom room.old undo.now.count }
-    requires lost { undo.now.count ≤ length undo.now.lost.now }
-    requires inside { PutsInside (values_of rows.now) undo.now.put.now undo.now.count (length words.old) }
-    ensures room { IsArrayRoom room.new undo.now.count }
-    ensures back { TakesBack (values_of rows.now) undo.now.put.now undo.now.count undo.now.lost.now words.old words.new }
+    requires undo { CanUndo (values_of rows.now) room.old undo.now (length words.old) }
+    ensures { IsUndone (values_of rows.now) room.new undo.now words.old words.new }
 {
     let put = undo.put;
     let lost = undo.lost;
@@ -474,13 +457,8 @@ fn undo_words(rows: &[Row], room: &mut ArrayRoom, undo: &Undo<'_>, words: &mut [
 // Takes back what an array was given.
 #[tactic(auto, using(crate::proofs::OnePass::single_undone))]
 pub fn undo_array(rows: &[Row], room: &mut ArrayRoom, undo: &Undo<'_>, words: &mut [u64])
-    requires index { HasRow (values_of rows.now) undo.now.count undo.now.put.now.index }
-    requires value { HasRow (values_of rows.now) undo.now.count undo.now.put.now.value }
-    requires room { IsArrayRoom room.old undo.now.count }
-    requires lost { undo.now.count ≤ length undo.now.lost.now }
-    requires inside { PutsInside (values_of rows.now) undo.now.put.now undo.now.count (length words.old) }
-    ensures room { IsArrayRoom room.new undo.now.count }
-    ensures back { TakesBack (values_of rows.now) undo.now.put.now undo.now.count undo.now.lost.now words.old words.new }
+    requires { CanUndo (values_of rows.now) room.old undo.now (length words.old) }
+    ensures { IsUndone (values_of rows.now) room.new undo.now words.old words.new }
 {
     if words.len() == 1 {
         undo_one(words, undo.lost, undo.count);

@@ -1,8 +1,8 @@
 // The rows of the inputs.
 
-ghost use Rattle.std.specs.Prelude.{◌≡◌, ℕ, ◌+◌, ◌*◌, ◌<◌, ◌≤◌, length, map, slice_index, IsTrue, [], slice_index_or, if◌then◌else◌};
-ghost use Rattle.lane_rows.specs.Values.{row_values, values_of, value_at};
-ghost use Rattle.batch_sim.specs.Checked.{input_of, IsInputRow, AreInputRows};
+ghost use Rattle.std.specs.Prelude.{◌≡◌, ◌+◌, ◌*◌, ◌<◌, ◌≤◌, length, map, IsTrue, [], slice_index_or};
+ghost use Rattle.lane_rows.specs.Values.{row_values, values_of};
+ghost use Rattle.batch_sim.specs.Checked.{input_of, inputs_with, AreInputRows, AreLonger, CanGive, IsInputRow};
 ghost use Rattle.batch_sim.specs.Pieces.{HasDins};
 
 use batch_guess::Piece;
@@ -28,7 +28,7 @@ fn input_at(
 ) -> u64
     requires clock { clock < length enables.now }
     requires all { length dins.now ≡ length enables.now * ports }
-    requires input { input < (if has_enable then 2 else 1) + ports }
+    requires input { input < inputs_with has_enable ports }
     ensures { result ≡ input_of has_enable ports enables.now dins.now clock input }
 {
     if input == 0 {
@@ -49,9 +49,7 @@ fn is_given<L: Lane>(
     piece: &Piece<'_>,
     input: usize,
 ) -> bool
-    requires dins { HasDins ports piece.now }
-    requires input { input < (if has_enable then 2 else 1) + ports }
-    requires room { piece.now.count ≤ length row.now }
+    requires { CanGive has_enable ports piece.now input (length row.now) }
     ensures { IsTrue result → IsInputRow has_enable ports piece.now input (map L.value row.now) }
 {
     let enables = piece.inputs.enables;
@@ -68,9 +66,7 @@ fn is_given<L: Lane>(
 
 // The same of a row in any lane.
 fn is_row_given(row: &Row, has_enable: bool, ports: usize, piece: &Piece<'_>, input: usize) -> bool
-    requires dins { HasDins ports piece.now }
-    requires input { input < (if has_enable then 2 else 1) + ports }
-    requires room { piece.now.count ≤ length (row_values row.now) }
+    requires { CanGive has_enable ports piece.now input (length (row_values row.now)) }
     ensures { IsTrue result → IsInputRow has_enable ports piece.now input (row_values row.now) }
 {
     match row {
@@ -89,9 +85,9 @@ pub fn are_given(
     piece: &Piece<'_>,
 ) -> bool
     requires dins { HasDins ports piece.now }
-    requires inputs { inputs ≡ (if has_enable then 2 else 1) + ports }
+    requires inputs { inputs ≡ inputs_with has_enable ports }
     requires slots { inputs ≤ length rows.now }
-    requires long { (n : ℕ) → n < length rows.now → piece.now.count ≤ length (slice_index_or (values_of rows.now) n []) }
+    requires long { AreLonger rows.now piece.now.count }
     ensures { IsTrue result → AreInputRows has_enable ports piece.now inputs (values_of rows.now) }
 {
     for input in 0..inputs {

@@ -1,6 +1,6 @@
 // Rows for a module.
 
-ghost use Rattle.std.specs.Prelude.{◌≡◌, ◌<◌, ◌≤◌, length, replicate, IfOk, IfSome};
+ghost use Rattle.std.specs.Prelude.{◌≡◌, ◌<◌, ◌≤◌, replicate, IfOk, IfSome};
 ghost use Rattle.wiring.specs.Netlist.{netlist_of};
 ghost use Rattle.lane_rows.specs.Values.{items_of};
 ghost use Rattle.batch_code.specs.Code.{IsBatchCode};

@@ -1,9 +1,8 @@
 // What the outputs show in the clocks of a batch.
 
-ghost use Rattle.std.specs.Prelude.{◌≡◌, ◌≢◌, ℕ, ◌+◌, ◌*◌, ◌<◌, ◌≤◌, ◌==◌, length, map, [], slice_get, Some, slice_index_or};
+ghost use Rattle.std.specs.Prelude.{◌≡◌, ◌+◌, ◌*◌, ◌<◌, ◌==◌, length, map};
 ghost use Rattle.lane_rows.specs.Values.{row_values, values_of};
-ghost use Rattle.batch_sim.specs.Called.{of_clock};
-ghost use Rattle.batch_sim.specs.Shown.{shown_at, AreRowOuts};
+ghost use Rattle.batch_sim.specs.Shown.{shown_at, AreShownIn, CanShow, CanShowAll, ShowsOutput};
 
 use crate::judge::given::row_at;
 use cycle_sim::Out;
@@ -30,13 +29,9 @@ fn show_numbers<V: Lane, D: Lane>(
     count: usize,
     clocks: usize,
 )
-    requires valid { clocks ≤ length valid.now }
-    requires dout { clocks ≤ length dout.now }
-    requires output { output < count }
-    requires outs { length outs.old ≡ clocks * count }
-    ensures outs { length outs.new ≡ length outs.old }
-    ensures here { (t : ℕ) → t < clocks → slice_get outs.new (t * count + output) ≡ Some (shown_at (map V.value valid.now) (map D.value dout.now) t) }
-    ensures others { (t k : ℕ) → k < count → k ≢ output → slice_get outs.new (t * count + k) ≡ slice_get outs.old (t * count + k) }
+    requires { CanShow valid.now dout.now outs.old output count clocks }
+    ensures { ShowsOutput (map V.value valid.now) (map D.value dout.now) output count clocks
+        outs.old outs.new }
 {
     for t in 0..clocks {
         outs[t * count + output] = out_at(valid, dout, t);
@@ -51,13 +46,9 @@ fn show_dout<V: Lane>(
     count: usize,
     clocks: usize,
 )
-    requires valid { clocks ≤ length valid.now }
-    requires dout { clocks ≤ length (row_values dout.now) }
-    requires output { output < count }
-    requires outs { length outs.old ≡ clocks * count }
-    ensures outs { length outs.new ≡ length outs.old }
-    ensures here { (t : ℕ) → t < clocks → slice_get outs.new (t * count + output) ≡ Some (shown_at (map V.value valid.now) (row_values dout.now) t) }
-    ensures others { (t k : ℕ) → k < count → k ≢ output → slice_get outs.new (t * count + k) ≡ slice_get outs.old (t * count + k) }
+    requires { CanShow valid.now (row_values dout.now) outs.old output count clocks }
+    ensures { ShowsOutput (map V.value valid.now) (row_values dout.now) output count clocks outs.old
+        outs.new }
 {
     match dout {
         Row::Narrow(dout) => show_numbers(valid, dout, outs, output, count, clocks),
@@ -74,13 +65,9 @@ fn show_output(
     count: usize,
     clocks: usize,
 )
-    requires valid { clocks ≤ length (row_values valid.now) }
-    requires dout { clocks ≤ length (row_values dout.now) }
-    requires output { output < count }
-    requires outs { length outs.old ≡ clocks * count }
-    ensures outs { length outs.new ≡ length outs.old }
-    ensures here { (t : ℕ) → t < clocks → slice_get outs.new (t * count + output) ≡ Some (shown_at (row_values valid.now) (row_values dout.now) t) }
-    ensures others { (t k : ℕ) → k < count → k ≢ output → slice_get outs.new (t * count + k) ≡ slice_get outs.old (t * count + k) }
+    requires { CanShow (row_values valid.now) (row_values dout.now) outs.old output count clocks }
+    ensures { ShowsOutput (row_values valid.now) (row_values dout.now) output count clocks outs.old
+        outs.new }
 {
     match valid {
         Row::Narrow(valid) => show_dout(valid, dout, outs, output, count, clocks),
@@ -91,10 +78,8 @@ fn show_output(
 
 // All outputs, whose slots begin with the first one, at each of this many clocks, this many a clock.
 pub fn show_rows(rows: &[Row], first: usize, count: usize, outs: &mut [Out], clocks: usize)
-    requires outs { length outs.old ≡ clocks * count }
-    requires slots { first + 2 * count ≤ length rows.now }
-    requires long { (n : ℕ) → n < length rows.now → clocks < length (slice_index_or (values_of rows.now) n []) }
-    ensures { (t : ℕ) → t < clocks → AreRowOuts (values_of rows.now) first t count (of_clock count t outs.new) }
+    requires { CanShowAll rows.now first count clocks outs.old }
+    ensures { AreShownIn (values_of rows.now) first count clocks outs.new }
 {
     for output in 0..count {
         let valid = row_at(rows, first + 2 * output);

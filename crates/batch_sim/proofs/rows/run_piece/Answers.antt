@@ -1,4 +1,4 @@
-use Rattle.std.proofs.Common.{length, ap, sym, subst, ◌∙◌}
+use Rattle.std.proofs.Common.{arith, length, ap, sym, subst, ◌∙◌}
 use Rattle.batch_code.specs.Rows.{RowsRan}
 use Rattle.batch_guess.specs.declared.engine.Engine.{Engine}
 use Rattle.batch_guess.specs.Guess.{Guessed}
@@ -18,6 +18,12 @@ returns-clause-rows c =
     (ap (λ (g : Guessed). g.engine) c.judge_rows.ensures.guess ∙ c.guess.ensures.code.0, ap (λ (g : Guessed). g.long) c.judge_rows.ensures.guess ∙ c.guess.ensures.code.1)
     c.judge_rows.ensures.size
 
-pub returns-clause-ran : goal.returns-clause-ran
-returns-clause-ran c = λ yes.
-    subst (λ (g : Guessed). RowsRan c.args.sim.now.netlist (clocks_in c.args.sim.now.netlist c.args.piece.now) (contents_in c.args.stored.now) (contents_in c.judge_rows.new.stored) (values_of g.rows)) (sym c.judge_rows.ensures.guess) (c.judge_rows.ensures.ran yes)
+pub returns-clause-tries : goal.returns-clause-tries
+returns-clause-tries c =
+    let tries = c.judge_rows.ensures.tries in
+    record {
+      most = λ yes. omega (arith, tries.most yes, c.judge_rows.ensures.size);
+      fits = tries.fits;
+      ran = λ yes. subst (λ (g : Guessed). RowsRan c.args.sim.now.netlist (clocks_in c.args.sim.now.netlist c.args.piece.now) (contents_in c.args.stored.now) (contents_in c.judge_rows.new.stored) (values_of g.rows)) (sym c.judge_rows.ensures.guess) (tries.ran yes);
+      back = tries.back;
+    }

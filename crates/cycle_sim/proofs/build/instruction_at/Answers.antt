@@ -13,5 +13,5 @@ returns c =
     let m : Netlist = netlist_of c.args.wiring.now in
     let a : Assign = c.index.result.now in
     let at : slice_get m.assigns c.args.number ≡ Some a = slice_get_read m.assigns (length m.assigns) c.args.number a refl c.requires.within c.index.ensures in
-    let sound : AssignIsSound m a = All-at (AssignIsSound m) m.assigns c.args.number a c.requires.rules.assigns at in
-    (a, at, c.instruction_of.ensures m c.requires.layout (driven_declared m a.target sound.target) sound.right.nets)
+    let sound : AssignIsSound m a = All-at (AssignIsSound m) m.assigns c.args.number a c.requires.laid.rules.assigns at in
+    (a, at, c.instruction_of.ensures m c.requires.laid.layout (driven_declared m a.target sound.target) sound.right.nets)

@@ -24,7 +24,7 @@ finish-requires-clause-filled g c =
     let now = (g.D.Desk.outside c.all_clocks.new.desk).notes in
     let most : old.most ≡ asked size (rounds_of rounds) = set.most ∙ ap (λ z. length rounds * z) c.area-pixels.ensures.is ∙ ap (λ n. n * area size) (sym (rounds_length rounds)) in
     let none = subst (λ n. AreKept n [] old.pictures.items) (sym set.most) set.kept in
-    let end = ended m c.args.drive size (rounds_of rounds) old new before now set.netlist set.contents most none c.in-Ok.ensures.ok c.in-Ok.ensures.few in
+    let end = ended m c.args.drive size (rounds_of rounds) old new before now set.netlist set.contents most none c.in-Ok.ensures.drives.ok c.in-Ok.ensures.few in
     filled_end m c.args.drive size rounds new.pictures.items c.deref-3.result.now c.deref-2.result.now before now end c.deref-3.ensures.value (c.deref-2.ensures.value ∙ ap (λ z. z.outputs) c.wiring-wiring.ensures.netlist)
 
 pub returns-in_err-file-clause-stop : goal.returns-in_err-file-clause-stop
@@ -39,7 +39,7 @@ returns-in_err-file-clause-stop g c =
     let now = (g.D.Desk.outside c.all_clocks.new.desk).notes in
     let most : old.most ≡ asked size (rounds_of rounds) = set.most ∙ ap (λ z. length rounds * z) c.area-pixels.ensures.is ∙ ap (λ n. n * area size) (sym (rounds_length rounds)) in
     let none = subst (λ n. AreKept n [] old.pictures.items) (sym set.most) set.kept in
-    let end = ended m c.args.drive size (rounds_of rounds) old new before now set.netlist set.contents most none c.in-Ok.ensures.ok c.in-Ok.ensures.few in
+    let end = ended m c.args.drive size (rounds_of rounds) old new before now set.netlist set.contents most none c.in-Ok.ensures.drives.ok c.in-Ok.ensures.few in
     let p = err_from_is_err_and c.from_residual-in_err-file.result c.from_residual-in_err-file.ensures.1 in
     rw (p.1, p.2) (short_end m c.args.drive size rounds new.pictures.items c.deref-3.result.now c.deref-2.result.now before now end c.deref-3.ensures.value (c.deref-2.ensures.value ∙ ap (λ z. z.outputs) c.wiring-wiring.ensures.netlist) c.in_err-file.field-0.0 c.in_err-file.ensures.short)
 
@@ -55,7 +55,7 @@ returns-clause-file g c =
     let now = (g.D.Desk.outside c.all_clocks.new.desk).notes in
     let most : old.most ≡ asked size (rounds_of rounds) = set.most ∙ ap (λ z. length rounds * z) c.area-pixels.ensures.is ∙ ap (λ n. n * area size) (sym (rounds_length rounds)) in
     let none = subst (λ n. AreKept n [] old.pictures.items) (sym set.most) set.kept in
-    let end = ended m c.args.drive size (rounds_of rounds) old new before now set.netlist set.contents most none c.in-Ok.ensures.ok c.in-Ok.ensures.few in
+    let end = ended m c.args.drive size (rounds_of rounds) old new before now set.netlist set.contents most none c.in-Ok.ensures.drives.ok c.in-Ok.ensures.few in
     file_end m c.args.drive size rounds new.pictures.items c.deref-3.result.now c.deref-2.result.now before now end c.deref-3.ensures.value (c.deref-2.ensures.value ∙ ap (λ z. z.outputs) c.wiring-wiring.ensures.netlist) c.in_ok-file.file.items c.in_ok-file.ensures.file
 
 pub returns-clause-notes : goal.returns-clause-notes
@@ -70,7 +70,7 @@ returns-clause-notes g c =
     let now = (g.D.Desk.outside c.all_clocks.new.desk).notes in
     let most : old.most ≡ asked size (rounds_of rounds) = set.most ∙ ap (λ z. length rounds * z) c.area-pixels.ensures.is ∙ ap (λ n. n * area size) (sym (rounds_length rounds)) in
     let none = subst (λ n. AreKept n [] old.pictures.items) (sym set.most) set.kept in
-    let end = ended m c.args.drive size (rounds_of rounds) old new before now set.netlist set.contents most none c.in-Ok.ensures.ok c.in-Ok.ensures.few in
+    let end = ended m c.args.drive size (rounds_of rounds) old new before now set.netlist set.contents most none c.in-Ok.ensures.drives.ok c.in-Ok.ensures.few in
     (notes_of m end.shots, record { shots = end.shots; run = end.run; notes_are = refl }, end.told)
 
 pub returns-in_err-held-clause-stop : goal.returns-in_err-held-clause-stop
@@ -88,4 +88,4 @@ returns-in-Err-clause-stop g c =
     let stop = c.in-Err.stop in
     is_stop m drive (size_of c.args.size) rounds old.made stop set.made
     (subst (λ (from : Contents). StopsIn m from old.made (stimulus drive (din_widths m) rounds) stop) set.contents
-    (subst (λ (z : Netlist). StopsIn z old.sim.contents old.made (stimulus drive (din_widths z) rounds) stop) set.netlist c.in-Err.ensures.stop))
+    (subst (λ (z : Netlist). StopsIn z old.sim.contents old.made (stimulus drive (din_widths z) rounds) stop) set.netlist c.in-Err.ensures.drives.stop))

@@ -70,12 +70,15 @@ stopped-requires g c =
     let l = done_within old.sim.netlist old.batch.enables.items old.batch.dins.items old.sim.contents c.in-Err.stop c.in-Err.ensures.stop in
     omega (arith, l, c.requires.few, c.requires.clocks.few)
 
-pub returns-in-Err-clause-stop : goal.returns-in-Err-clause-stop
-returns-in-Err-clause-stop g c =
+pub returns-in-Err : goal.returns-in-Err
+returns-in-Err g c =
     let old = c.args.bench.now in
     let m = old.sim.netlist in
-    subst (λ z. StopsIn m old.sim.contents old.made (batch_clocks m old.batch.enables.items old.batch.dins.items) z) (sym c.stopped.ensures)
-    (stops_in m (batch_clocks m old.batch.enables.items old.batch.dins.items) old.sim.contents old.made c.in-Err.stop c.in-Err.ensures.stop)
+    record {
+      only = c.tell.ensures.only;
+      stop = subst (λ z. StopsIn m old.sim.contents old.made (batch_clocks m old.batch.enables.items old.batch.dins.items) z) (sym c.stopped.ensures)
+          (stops_in m (batch_clocks m old.batch.enables.items old.batch.dins.items) old.sim.contents old.made c.in-Err.stop c.in-Err.ensures.stop);
+    }
 
 pub shown-outs-requires : goal.shown-outs-requires
 shown-outs-requires g c =
@@ -145,8 +148,8 @@ show_all-requires-clause-douts g c =
     let fit = c.requires.clocks.fit in
     small_all nets next m bench.order bench.rules bench.ordered enables dins old.sim.contents to outs p two count fits fit r
 
-pub returns-in-Ok-clause-ok : goal.returns-in-Ok-clause-ok
-returns-in-Ok-clause-ok g c =
+pub returns-in-Ok : goal.returns-in-Ok
+returns-in-Ok g c =
     let outside = g.D.Desk.outside in
     let old = c.args.bench.now in
     let bench = c.requires.bench in
@@ -174,9 +177,12 @@ returns-in-Ok-clause-ok g c =
     let n = shots_count nets next m bench.order bench.rules bench.ordered enables dins old.sim.contents to outs p two count fits fit r in
     let shown = subst (λ w. AreShownIn w r.shots outs) (let e : p ≡ length old.pictures.items = omega (arith, c.len-ports.ensures) in e) (shown_in nets next m bench.order bench.rules bench.ordered enables dins old.sim.contents to outs p two count fits fit r) in
     let shows = shows_batch nets next m bench.order bench.rules bench.ordered enables dins old.sim.contents to outs p two count fits fit r old.most old.pictures.items c.show_all.new.pictures.items before now (λ all h. c.show_all.ensures.kept r.shots all (n ∙ sym counted) shown h) c.tell-in-Ok.ensures.notes in
-    clocked_batch enables dins old _ before now bench step.netlist refl (let e : old.made + c.len-count.result ≡ old.made + length enables = omega (arith, counted) in e) refl c.show_all.ensures.count c.show_all.ensures.room
-    (record {
-      enables = subst (λ v. 2 * BATCH_PIXELS ≤ vec_capacity v) (sym step.keeps.enables) bench.batch.enables;
-      dins = subst (λ v. 2 * BATCH_PIXELS * length (din_widths m) ≤ vec_capacity v) (sym step.keeps.dins) bench.batch.dins;
-      outs = step.keeps.outs ∙ bench.batch.outs;
-    }) shows
+    record {
+      only = c.tell-in-Ok.ensures.only;
+      ok = clocked_batch enables dins old _ before now bench step.netlist refl (let e : old.made + c.len-count.result ≡ old.made + length enables = omega (arith, counted) in e) refl c.show_all.ensures.pictures.count c.show_all.ensures.pictures.room
+          (record {
+            enables = subst (λ v. 2 * BATCH_PIXELS ≤ vec_capacity v) (sym step.keeps.enables) bench.batch.enables;
+            dins = subst (λ v. 2 * BATCH_PIXELS * length (din_widths m) ≤ vec_capacity v) (sym step.keeps.dins) bench.batch.dins;
+            outs = step.keeps.outs ∙ bench.batch.outs;
+          }) shows;
+    }

@@ -18,11 +18,11 @@ loop-number-preserved c =
     let size : length (take ((k + 1) * p - k * p) (drop (k * p) outs)) ≡ p = code_size p k outs inside in
     let here = ap (λ n. take n (drop (k * p) outs)) (place_size k p) ∙ ap (λ n. of_clock n k outs) ports in
     record {
-      count = c.show.ensures.count ∙ size ∙ ports;
-      room = c.show.ensures.room;
+      count = c.show.ensures.pictures.count ∙ size ∙ ports;
+      room = c.show.ensures.pictures.room;
       kept = λ shots all n shown h.
           shown_more c.args.most (length c.args.pictures.now.items) k outs (take ((k + 1) * p - k * p) (drop (k * p) outs)) shots all c.loop-number.pictures.items c.show.new.pictures.items here (subst (λ z. k < z) (sym n) c.loop-number-test.true) shown
-          (inv.count ∙ sym ports ∙ sym size) c.show.ensures.count c.show.ensures.kept (inv.kept shots all n shown h);
+          (inv.count ∙ sym ports ∙ sym size) c.show.ensures.pictures.count c.show.ensures.kept (inv.kept shots all n shown h);
     }
 
 pub returns-clause-kept : goal.returns-clause-kept

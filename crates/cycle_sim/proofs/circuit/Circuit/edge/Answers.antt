@@ -6,13 +6,13 @@ use Rattle.cycle_sim.specs.Simulated.{Moment, shot_of}
 use Rattle.cycle_sim.proofs.Simulates.{edges_safe, regs_within, after_edge, next_of}
 use Rattle.cycle_sim.proofs.circuit.Circuit.edge.Goals as goal
 
-pub edge_vec-requires-clause-edges : goal.edge_vec-requires-clause-edges
-edge_vec-requires-clause-edges c =
+pub edge_vec-requires : goal.edge_vec-requires
+edge_vec-requires c =
     let range : IsInRange (netlist_of c.self.inside.wiring) (shot_of (netlist_of c.self.inside.wiring) c.self.inside.values.items (words_of c.self.inside.arrays.items)) = subst (λ (v : Moment). IsInRange v.netlist v.shot) (sym c.self.view_is) c.requires in
-    edges_safe (netlist_of c.self.inside.wiring) c.self.inside.order.items c.self.inside.program c.self.inside.values.items c.self.inside.staged.items (words_of c.self.inside.arrays.items) c.self.invariant range
-
-pub edge_vec-requires-clause-regs : goal.edge_vec-requires-clause-regs
-edge_vec-requires-clause-regs c = regs_within (netlist_of c.self.inside.wiring) c.self.inside.order.items c.self.inside.program c.self.inside.values.items c.self.inside.staged.items (words_of c.self.inside.arrays.items) c.self.invariant
+    record {
+      edges = edges_safe (netlist_of c.self.inside.wiring) c.self.inside.order.items c.self.inside.program c.self.inside.values.items c.self.inside.staged.items (words_of c.self.inside.arrays.items) c.self.invariant range;
+      regs = regs_within (netlist_of c.self.inside.wiring) c.self.inside.order.items c.self.inside.program c.self.inside.values.items c.self.inside.staged.items (words_of c.self.inside.arrays.items) c.self.invariant;
+    }
 
 pub invariant_of-self : goal.invariant_of-self
 invariant_of-self c =

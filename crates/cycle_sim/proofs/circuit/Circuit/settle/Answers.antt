@@ -10,17 +10,14 @@ use Rattle.cycle_sim.proofs.Exactly.{clock_only}
 use Rattle.cycle_sim.proofs.Simulates.{ports_within, ports_code, clock_circuit, clock_shot, clock_range, clock_stop}
 use Rattle.cycle_sim.proofs.circuit.Circuit.settle.Goals as goal
 
-pub settle_vec-requires-clause-inputs : goal.settle_vec-requires-clause-inputs
-settle_vec-requires-clause-inputs c =
+pub settle_vec-requires : goal.settle_vec-requires
+settle_vec-requires c =
     let clock : Clock = record { reset = c.args.reset; enable = c.args.enable; dins = c.args.dins.now } in
     let fits : Fit c.self.inside.wiring.inputs.items (given (netlist_of c.self.inside.wiring) clock) = given_fit (netlist_of c.self.inside.wiring) c.self.invariant.rules clock (subst (λ (v : Moment). Fit (din_widths v.netlist) c.args.dins.now) (sym c.self.view_is) c.requires) in
-    ports_within (netlist_of c.self.inside.wiring) c.self.inside.order.items c.self.inside.program c.self.inside.values.items c.self.inside.staged.items (words_of c.self.inside.arrays.items) c.self.invariant clock fits
-
-pub settle_vec-requires-clause-code : goal.settle_vec-requires-clause-code
-settle_vec-requires-clause-code c =
-    let clock : Clock = record { reset = c.args.reset; enable = c.args.enable; dins = c.args.dins.now } in
-    let fits : Fit c.self.inside.wiring.inputs.items (given (netlist_of c.self.inside.wiring) clock) = given_fit (netlist_of c.self.inside.wiring) c.self.invariant.rules clock (subst (λ (v : Moment). Fit (din_widths v.netlist) c.args.dins.now) (sym c.self.view_is) c.requires) in
-    ports_code (netlist_of c.self.inside.wiring) c.self.inside.order.items c.self.inside.program c.self.inside.values.items c.self.inside.staged.items (words_of c.self.inside.arrays.items) c.self.invariant clock fits
+    record {
+      inputs = ports_within (netlist_of c.self.inside.wiring) c.self.inside.order.items c.self.inside.program c.self.inside.values.items c.self.inside.staged.items (words_of c.self.inside.arrays.items) c.self.invariant clock fits;
+      code = ports_code (netlist_of c.self.inside.wiring) c.self.inside.order.items c.self.inside.program c.self.inside.values.items c.self.inside.staged.items (words_of c.self.inside.arrays.items) c.self.invariant clock fits;
+    }
 
 pub invariant_of-self : goal.invariant_of-self
 invariant_of-self c =
