@@ -6,4 +6,4 @@ pub returns-clause-tests : goal.returns-clause-tests
 returns-clause-tests c b =
     let width = c.args.plan.now.system.stencils.width in
     subst (λ (h : ℕ). AreFrameTests b (record { width = width; height = h }) c.new.result) c.rows.ensures
-    (subst (λ (w : ℕ). AreFrameTests b (record { width = w; height = c.rows.result }) c.new.result) c.columns.ensures (c.new.ensures.tests b))
+    (subst (λ (w : ℕ). AreFrameTests b (record { width = w; height = c.rows.result }) c.new.result) c.columns.ensures (c.new.ensures.none.tests b))
