@@ -1,7 +1,6 @@
 -- What a netlist and its frame tests gain as a test is made.
-use Rattle.std.specs.Prelude.{◌≡◌, ◌<◌, ℕ, ◌+◌, List, Contains, Option, Some, IfSome}
+use Rattle.std.specs.Prelude.{◌≡◌, ◌<◌, ℕ, ◌+◌, List, Option, Some, IfSome}
 use Rattle.dk_base.specs.Frames.{Size}
-use Rattle.dk_base.specs.FrameSizes.{size_of}
 use Rattle.frame_paths.specs.declared.moves.Interval.{Interval}
 use Rattle.frame_paths.specs.Moves.{IsIn}
 use Rattle.wiring.specs.declared.netlist.Net.{Net}
@@ -14,7 +13,6 @@ use Rattle.net_build.specs.Draft.{IsNet}
 use Rattle.net_build.specs.Registers.{register_bits}
 use Rattle.edge_select.specs.declared.bands.Band.{Band}
 use Rattle.edge_select.specs.declared.counters.Counters.{Counters}
-use Rattle.edge_select.specs.declared.frame_tests.Test.{Test}
 use Rattle.edge_select.specs.declared.frame_tests.FrameTests.{FrameTests}
 use Rattle.edge_select.specs.Asked.{AddsFor, AddsOnly, SeparatesColumns, SeparatesRows}
 use Rattle.edge_select.specs.FrameTests.{AddsBeside, AddsTests, AreCounters, AreFrameTests, CountsTests, IsApart, IsColumnTest, IsFrameTest, IsPartTest, IsRowTest, counter_bits, start_bits, test_bits}

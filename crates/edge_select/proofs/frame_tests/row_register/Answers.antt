@@ -19,8 +19,7 @@ returns-clause-test c =
     c.in_ok-begins.ensures.logic c.in_ok-test.ensures.logic c.in_ok-begins.ensures.test c.in_ok-test.ensures.test c.in_ok-net.ensures.adds
 
 pub register_of-requires-clause-load : goal.register_of-requires-clause-load
-register_of-requires-clause-load c =
-    (
+register_of-requires-clause-load c = (
   net_more c.next_row_test.new.b c.starts.new.b c.in_ok-test.ensures.logic.includes c.in_ok-begins.begins c.in_ok-begins.ensures.test.computes.net,
   width_more c.next_row_test.new.b c.starts.new.b c.in_ok-test.ensures.logic.includes c.in_ok-begins.begins c.in_ok-begins.ensures.test.computes.net.declared ∙ c.in_ok-begins.ensures.test.computes.width,
 )

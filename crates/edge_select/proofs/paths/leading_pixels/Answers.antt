@@ -17,7 +17,7 @@ pub returns-in-None : goal.returns-in-None
 returns-in-None c = record {
   within = search rules;
   passes = λ x y low high. let inside = pixel_inside (size_of c.args.size) x y low high in (
-        (λ h. absurd h),
-        (λ h. (c.in-None.ensures.leads (pos x) (pos y) h.0 h.1 inside).1 h.2),
-      );
+    (λ h. absurd h),
+    (λ h. (c.in-None.ensures.leads (pos x) (pos y) h.0 h.1 inside).1 h.2),
+  );
 }

@@ -7,8 +7,7 @@ use Rattle.edge_select.proofs.Bits.{one_more}
 use Rattle.edge_select.proofs.starts.start_register.Goals as goal
 
 pub register_of-requires-clause-load : goal.register_of-requires-clause-load
-register_of-requires-clause-load c =
-    (
+register_of-requires-clause-load c = (
   net_more c.constant_test.new.b c.is_at.new.b c.in_ok-one.ensures.logic.includes c.in_ok-here.here c.in_ok-here.ensures.test.net,
   width_more c.constant_test.new.b c.is_at.new.b c.in_ok-one.ensures.logic.includes c.in_ok-here.here c.in_ok-here.ensures.test.net.declared ∙ c.in_ok-here.ensures.test.width,
 )
