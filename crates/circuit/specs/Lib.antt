@@ -14,3 +14,5 @@ pub mod Modules
 pub mod Registers
 pub mod Ends
 pub mod Driven
+pub mod Growing
+pub mod Whole
