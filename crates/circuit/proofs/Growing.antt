@@ -1,5 +1,4 @@
 -- Frame tests that grow with a module.
-use Rattle.std.proofs.Common.{ℕ}
 use Rattle.wiring.specs.Netlist.{Netlist}
 use Rattle.net_build.specs.Logic.{AddsLogic}
 use Rattle.edge_select.specs.declared.frame_tests.FrameTests.{FrameTests}

@@ -15,4 +15,5 @@ pub mod Registers
 pub mod Ends
 pub mod Driven
 pub mod Growing
+pub mod Readers
 pub mod Whole

@@ -8,9 +8,10 @@ ghost use Rattle.edge_select.specs.Logic.{Wires, WiresFrom};
 ghost use Rattle.edge_select.specs.Steps.{LeadBy};
 ghost use Rattle.circuit.specs.Rounds.{type_at};
 ghost use Rattle.circuit.specs.Leaves.{leaf_at};
-ghost use Rattle.circuit.specs.Reads.{ChoosesAlso, Chooses, IsNetOf, reads_in, atom_of_choice, choice_nets, chosen_by};
-ghost use Rattle.circuit.specs.Registers.{AsksRead, AsksLeaf};
-ghost use Rattle.circuit.specs.Growing.{AreChosen, CanRead, GrowFor, IsOfWidth, IsTypedRead};
+ghost use Rattle.circuit.specs.Reads.{IsNetOf, reads_in, atom_of_choice, choice_nets, chosen_by};
+ghost use Rattle.circuit.specs.Registers.{AsksRead};
+ghost use Rattle.circuit.specs.Growing.{AreChosen, IsOfWidth};
+ghost use Rattle.circuit.specs.Readers.{AsksFor, ChoosesFor, ChoosesMore, GrowWith, IsReadFor, Reads, read_of};
 
 use crate::positions::test_at;
 use crate::reader::{Leaf, Reader, tap_of};
@@ -57,14 +58,13 @@ fn with_tap(
     read: LiveRead,
     before: Option<Net>,
 ) -> Result<Option<Net>, OutOfMemory>
-    requires reader { CanRead b.old reader.now.ir.now reader.now.plan.now reader.now.taps.now
-        reader.now.image tests.old }
+    requires reader { Reads b.old reader.now tests.old }
     requires read { Contains (reads_in reader.now.plan.now reader.now.image) read }
     requires before { IsOfWidth b.old (width_of (type_at reader.now.ir.now read.g)) before }
-    ensures grows { OnOk result (GrowFor b.new b.old tests.new tests.old reader.now.plan.now
+    ensures grows { OnOk result (GrowWith b.new b.old tests.new tests.old reader.now
         (AsksRead reader.now.image (leaf_at read.g steps.now) read)) }
-    ensures choice { IfOk result (ChoosesAlso b.new b.old reader.now.ir.now reader.now.plan.now
-        reader.now.taps.now reader.now.image (leaf_at read.g steps.now) read before) }
+    ensures choice { IfOk result (ChoosesMore b.new b.old reader.now
+        (leaf_at read.g steps.now) read before) }
 {
     let plan = reader.plan;
     plan.law();
@@ -114,15 +114,13 @@ fn with_read(
     read: LiveRead,
     before: Option<Net>,
 ) -> Result<Option<Net>, OutOfMemory>
-    requires reader { CanRead b.old reader.now.ir.now reader.now.plan.now reader.now.taps.now
-        reader.now.image tests.old }
+    requires reader { Reads b.old reader.now tests.old }
     requires read { Contains (reads_in reader.now.plan.now reader.now.image) read }
     requires before { IsOfWidth b.old (width_of (type_at reader.now.ir.now leaf.image)) before }
-    ensures grows { OnOk result (GrowFor b.new b.old tests.new tests.old reader.now.plan.now
-        (AsksRead reader.now.image (leaf_at leaf.entry.image leaf.entry.steps.now) read)) }
-    ensures choice { IfOk result (ChoosesAlso b.new b.old reader.now.ir.now reader.now.plan.now
-        reader.now.taps.now reader.now.image (leaf_at leaf.entry.image leaf.entry.steps.now)
-        read before) }
+    ensures grows { OnOk result (GrowWith b.new b.old tests.new tests.old reader.now
+        (AsksRead reader.now.image (read_of leaf.entry) read)) }
+    ensures choice { IfOk result (ChoosesMore b.new b.old reader.now
+        (read_of leaf.entry) read before) }
 {
     if read.g != leaf.image {
         return Ok(before);
@@ -142,13 +140,10 @@ fn choice_of(
     tests: &mut FrameTests,
     leaf: Leaf,
 ) -> Result<Option<Net>, OutOfMemory>
-    requires { CanRead b.old reader.now.ir.now reader.now.plan.now reader.now.taps.now
-        reader.now.image tests.old }
-    ensures grows { OnOk result (GrowFor b.new b.old tests.new tests.old reader.now.plan.now
-        (AsksLeaf reader.now.plan.now reader.now.image
-        (leaf_at leaf.entry.image leaf.entry.steps.now))) }
-    ensures choice { IfOk result (Chooses b.new b.old reader.now.ir.now reader.now.plan.now
-        reader.now.taps.now reader.now.image (leaf_at leaf.entry.image leaf.entry.steps.now)) }
+    requires { Reads b.old reader.now tests.old }
+    ensures grows { OnOk result (GrowWith b.new b.old tests.new tests.old reader.now
+        (AsksFor reader.now (read_of leaf.entry))) }
+    ensures choice { IfOk result (ChoosesFor b.new b.old reader.now (read_of leaf.entry)) }
 {
     let mut choice = None;
     for read in reader.plan.reads(reader.image) {
@@ -178,14 +173,11 @@ pub fn read_net(
     tests: &mut FrameTests,
     leaf: Leaf,
 ) -> Result<(Ty, Net), OutOfMemory>
-    requires reader { CanRead b.old reader.now.ir.now reader.now.plan.now reader.now.taps.now
-        reader.now.image tests.old }
+    requires reader { Reads b.old reader.now tests.old }
     requires earlier { leaf.image < reader.now.image }
-    ensures grows { OnOk result (GrowFor b.new b.old tests.new tests.old reader.now.plan.now
-        (AsksLeaf reader.now.plan.now reader.now.image
-        (leaf_at leaf.entry.image leaf.entry.steps.now))) }
-    ensures read { IfOk result (IsTypedRead b.new b.old reader.now.ir.now reader.now.plan.now
-        reader.now.taps.now reader.now.image (leaf_at leaf.entry.image leaf.entry.steps.now)) }
+    ensures grows { OnOk result (GrowWith b.new b.old tests.new tests.old reader.now
+        (AsksFor reader.now (read_of leaf.entry))) }
+    ensures read { IfOk result (IsReadFor b.new b.old reader.now (read_of leaf.entry)) }
 {
     reader.ir.law();
     let ty = reader.ir.type_of(leaf.image);

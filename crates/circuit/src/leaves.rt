@@ -4,9 +4,8 @@ ghost use Rattle.std.specs.Prelude.{◌≡◌, ◌++◌, ◌∷◌, [], ◌<◌,
 ghost use Rattle.pointwise_ir.specs.Trees.{tree_of};
 ghost use Rattle.circuit.specs.Leaves.{leaf_at, reads_of, bits_of, own_bit, ReadsBefore};
 ghost use Rattle.circuit.specs.Known.{leaf_of, IsKnownNet};
-ghost use Rattle.circuit.specs.Reads.{AddsLeaves};
-ghost use Rattle.circuit.specs.Registers.{AsksLeaf, AsksParts, Asks};
-ghost use Rattle.circuit.specs.Growing.{CanRead, GrowFor};
+ghost use Rattle.circuit.specs.Registers.{AsksParts, Asks};
+ghost use Rattle.circuit.specs.Readers.{AddsFor, AsksFor, GrowWith, Reads, read_of};
 
 use crate::choices::read_net;
 use crate::known::{BodyLeaves, ReadKey};
@@ -49,15 +48,12 @@ fn push_new(
     key: ReadKey,
     leaves: &mut BodyLeaves,
 ) -> Result<(), OutOfMemory>
-    requires reader { CanRead b.old reader.now.ir.now reader.now.plan.now reader.now.taps.now
-        reader.now.image tests.old }
+    requires reader { Reads b.old reader.now tests.old }
     requires earlier { leaf.image < reader.now.image }
-    requires key { leaf_of key ≡ leaf_at leaf.image leaf.steps.now }
-    ensures grows { OnOk result (GrowFor b.new b.old tests.new tests.old reader.now.plan.now
-        (AsksLeaf reader.now.plan.now reader.now.image
-        (leaf_at leaf.entry.image leaf.entry.steps.now))) }
-    ensures leaves { OnOk result (AddsLeaves b.new b.old reader.now.ir.now reader.now.plan.now
-        reader.now.taps.now reader.now.image
+    requires key { leaf_of key ≡ read_of leaf }
+    ensures grows { OnOk result (GrowWith b.new b.old tests.new tests.old reader.now
+        (AsksFor reader.now (read_of leaf.entry))) }
+    ensures leaves { OnOk result (AddsFor b.new b.old reader.now
         (leaf_at leaf.entry.image leaf.entry.steps.now ∷ []) [] leaves.new leaves.old) }
 {
     let net = read_net(b, reader, tests, leaf)?;
@@ -74,14 +70,11 @@ fn push_net(
     leaf: Leaf,
     leaves: &mut BodyLeaves,
 ) -> Result<(), OutOfMemory>
-    requires reader { CanRead b.old reader.now.ir.now reader.now.plan.now reader.now.taps.now
-        reader.now.image tests.old }
+    requires reader { Reads b.old reader.now tests.old }
     requires earlier { leaf.image < reader.now.image }
-    ensures grows { OnOk result (GrowFor b.new b.old tests.new tests.old reader.now.plan.now
-        (AsksLeaf reader.now.plan.now reader.now.image
-        (leaf_at leaf.entry.image leaf.entry.steps.now))) }
-    ensures leaves { OnOk result (AddsLeaves b.new b.old reader.now.ir.now reader.now.plan.now
-        reader.now.taps.now reader.now.image
+    ensures grows { OnOk result (GrowWith b.new b.old tests.new tests.old reader.now
+        (AsksFor reader.now (read_of leaf.entry))) }
+    ensures leaves { OnOk result (AddsFor b.new b.old reader.now
         (leaf_at leaf.entry.image leaf.entry.steps.now ∷ []) [] leaves.new leaves.old) }
 {
     let key = leaves.known.key(leaf.image, leaf.steps)?;
@@ -106,15 +99,12 @@ fn push_read(
     read: StepRead,
     leaves: &mut BodyLeaves,
 ) -> Result<(), OutOfMemory>
-    requires reader { CanRead b.old reader.now.ir.now reader.now.plan.now reader.now.taps.now
-        reader.now.image tests.old }
+    requires reader { Reads b.old reader.now tests.old }
     requires earlier { read.image < reader.now.image }
-    ensures grows { OnOk result (GrowFor b.new b.old tests.new tests.old reader.now.plan.now
-        (AsksLeaf reader.now.plan.now reader.now.image
-        (leaf_at read.image (steps.old.items ++ read.step ∷ [])))) }
+    ensures grows { OnOk result (GrowWith b.new b.old tests.new tests.old reader.now
+        (AsksFor reader.now (leaf_at read.image (steps.old.items ++ read.step ∷ [])))) }
     ensures steps { OnOk result (steps.new.items ≡ steps.old.items) }
-    ensures leaves { OnOk result (AddsLeaves b.new b.old reader.now.ir.now reader.now.plan.now
-        reader.now.taps.now reader.now.image
+    ensures leaves { OnOk result (AddsFor b.new b.old reader.now
         (leaf_at read.image (steps.old.items ++ read.step ∷ []) ∷ [])
         [] leaves.new leaves.old) }
 {
@@ -137,12 +127,10 @@ fn push_test(
     edge: Edge,
     leaves: &mut BodyLeaves,
 ) -> Result<(), OutOfMemory>
-    requires { CanRead b.old reader.now.ir.now reader.now.plan.now reader.now.taps.now
-        reader.now.image tests.old }
-    ensures grows { OnOk result (GrowFor b.new b.old tests.new tests.old reader.now.plan.now
+    requires { Reads b.old reader.now tests.old }
+    ensures grows { OnOk result (GrowWith b.new b.old tests.new tests.old reader.now
         (AsksParts reader.now.image (own_bit edge steps.now))) }
-    ensures leaves { OnOk result (AddsLeaves b.new b.old reader.now.ir.now reader.now.plan.now
-        reader.now.taps.now reader.now.image
+    ensures leaves { OnOk result (AddsFor b.new b.old reader.now
         [] (own_bit edge steps.now) leaves.new leaves.old) }
 {
     match edge {
@@ -157,10 +145,8 @@ fn push_test(
 
 // A law, called where the leaves of a part come after others: what they need is known there.
 fn still_law(b: &Builder, reader: &Reader, tests: &FrameTests)
-    requires { CanRead b.now reader.now.ir.now reader.now.plan.now reader.now.taps.now
-        reader.now.image tests.now }
-    ensures { CanRead b.now reader.now.ir.now reader.now.plan.now reader.now.taps.now
-        reader.now.image tests.now }
+    requires { Reads b.now reader.now tests.now }
+    ensures { Reads b.now reader.now tests.now }
 {}
 
 // Adds the nets of the leaves of an expression that is at the end of these steps. It calls itself as deep as the expression is.
@@ -172,15 +158,13 @@ pub fn push_leaves(
     steps: &mut Vec<Step>,
     leaves: &mut BodyLeaves,
 ) -> Result<(), OutOfMemory>
-    requires reader { CanRead b.old reader.now.ir.now reader.now.plan.now reader.now.taps.now
-        reader.now.image tests.old }
+    requires reader { Reads b.old reader.now tests.old }
     requires earlier { ReadsBefore reader.now.image (tree_of e.now) }
-    ensures grows { OnOk result (GrowFor b.new b.old tests.new tests.old reader.now.plan.now
+    ensures grows { OnOk result (GrowWith b.new b.old tests.new tests.old reader.now
         (Asks reader.now.plan.now reader.now.image
         (reads_of (tree_of e.now) steps.old.items) (bits_of (tree_of e.now) steps.old.items))) }
     ensures steps { OnOk result (steps.new.items ≡ steps.old.items) }
-    ensures leaves { OnOk result (AddsLeaves b.new b.old reader.now.ir.now reader.now.plan.now
-        reader.now.taps.now reader.now.image
+    ensures leaves { OnOk result (AddsFor b.new b.old reader.now
         (reads_of (tree_of e.now) steps.old.items) (bits_of (tree_of e.now) steps.old.items)
         leaves.new leaves.old) }
 {

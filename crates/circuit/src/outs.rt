@@ -21,7 +21,8 @@ fn same_latency(plan: &Plan, k: usize) -> Option<usize>
     requires within { k < length plan.now.system.stencils.outputs }
     ensures earlier { IfSome result (λ j. j < k) }
     ensures same { IfSome result (λ j. latency_of plan.now j ≡ latency_of plan.now k) }
-    ensures none { IfNone result ((j : ℕ) → j < k → latency_of plan.now j ≡ latency_of plan.now k → ⊥) }
+    ensures none { IfNone result
+        ((j : ℕ) → j < k → latency_of plan.now j ≡ latency_of plan.now k → ⊥) }
 {
     let latency = plan.latency_of(k);
     for j in 0..k {

@@ -15,9 +15,9 @@ closed-requires g c = record {
 
 pub read_nets-requires : goal.read_nets-requires
 read_nets-requires g c = record {
-      taps = subst (HaveTaps c.args.plan.now) (sym c.deref.ensures.value)
-          (have_taps c.args.b c.args.ir.now c.args.plan.now (g.F.BufferForm.form c.args.form.now) c.args.images.nets.items c.args.images.taps.items c.requires.images.built.built);
-    }
+  taps = subst (HaveTaps c.args.plan.now) (sym c.deref.ensures.value)
+      (have_taps c.args.b c.args.ir.now c.args.plan.now (g.F.BufferForm.form c.args.form.now) c.args.images.nets.items c.args.images.taps.items c.requires.images.built.built);
+}
 
 pub returns : goal.returns
 returns g c = record {

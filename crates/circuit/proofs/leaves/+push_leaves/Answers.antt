@@ -22,31 +22,39 @@ stepped here items edge dx dy fx fy h = subst (λ (y : ℤ). items ≡ with_step
 pub still_law-requires : goal.still_law-requires
 still_law-requires t c =
     let r = c.args.reader.now in
-    record { reading =
-    reading_more c.push_test.new.b c.args.b.now c.in_ok-push_test-in-Shifted.ensures.grows.adds.includes r.ir.now r.plan.now r.taps.now r.image c.requires.reader.reading;
-      tests = c.in_ok-push_test-in-Shifted.ensures.grows.tests }
+    record {
+      reading =
+          reading_more c.push_test.new.b c.args.b.now c.in_ok-push_test-in-Shifted.ensures.grows.adds.includes r.ir.now r.plan.now r.taps.now r.image c.requires.reader.reading;
+      tests = c.in_ok-push_test-in-Shifted.ensures.grows.tests;
+    }
 
 pub still_law-requires-in-Binary : goal.still_law-requires-in-Binary
 still_law-requires-in-Binary t c =
     let r = c.args.reader.now in
-    record { reading =
-    reading_more c.push_leaves-in-Binary.new.b c.args.b.now c.in_ok-push_leaves-in-Binary.ensures.grows.adds.includes r.ir.now r.plan.now r.taps.now r.image c.requires.reader.reading;
-      tests = c.in_ok-push_leaves-in-Binary.ensures.grows.tests }
+    record {
+      reading =
+          reading_more c.push_leaves-in-Binary.new.b c.args.b.now c.in_ok-push_leaves-in-Binary.ensures.grows.adds.includes r.ir.now r.plan.now r.taps.now r.image c.requires.reader.reading;
+      tests = c.in_ok-push_leaves-in-Binary.ensures.grows.tests;
+    }
 
 pub still_law-requires-in-Select : goal.still_law-requires-in-Select
 still_law-requires-in-Select t c =
     let r = c.args.reader.now in
-    record { reading =
-    reading_more c.push_leaves-in-Select.new.b c.args.b.now c.in_ok-push_leaves-in-Select.ensures.grows.adds.includes r.ir.now r.plan.now r.taps.now r.image c.requires.reader.reading;
-      tests = c.in_ok-push_leaves-in-Select.ensures.grows.tests }
+    record {
+      reading =
+          reading_more c.push_leaves-in-Select.new.b c.args.b.now c.in_ok-push_leaves-in-Select.ensures.grows.adds.includes r.ir.now r.plan.now r.taps.now r.image c.requires.reader.reading;
+      tests = c.in_ok-push_leaves-in-Select.ensures.grows.tests;
+    }
 
 pub still_law-requires-in-Select-2 : goal.still_law-requires-in-Select-2
 still_law-requires-in-Select-2 t c =
     let r = c.args.reader.now in
-    record { reading =
-    reading_more c.push_leaves-in-Select-2.new.b c.push_leaves-in-Select.new.b c.in_ok-push_leaves-in-Select-2.ensures.grows.adds.includes r.ir.now r.plan.now r.taps.now r.image
-    (reading_more c.push_leaves-in-Select.new.b c.args.b.now c.in_ok-push_leaves-in-Select.ensures.grows.adds.includes r.ir.now r.plan.now r.taps.now r.image c.requires.reader.reading);
-      tests = c.in_ok-push_leaves-in-Select-2.ensures.grows.tests }
+    record {
+      reading =
+          reading_more c.push_leaves-in-Select-2.new.b c.push_leaves-in-Select.new.b c.in_ok-push_leaves-in-Select-2.ensures.grows.adds.includes r.ir.now r.plan.now r.taps.now r.image
+          (reading_more c.push_leaves-in-Select.new.b c.args.b.now c.in_ok-push_leaves-in-Select.ensures.grows.adds.includes r.ir.now r.plan.now r.taps.now r.image c.requires.reader.reading);
+      tests = c.in_ok-push_leaves-in-Select-2.ensures.grows.tests;
+    }
 
 pub returns-in_ok-push_leaves-in-Shifted-clause-leaves : goal.returns-in_ok-push_leaves-in-Shifted-clause-leaves
 returns-in_ok-push_leaves-in-Shifted-clause-leaves t c =

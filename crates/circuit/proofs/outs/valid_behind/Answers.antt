@@ -2,7 +2,7 @@ use Rattle.std.proofs.Common.{◌≡◌, ℕ, ◌+◌, length, ◌∙◌, subst,
 use Rattle.dk_base.specs.FrameSizes.{size_of}
 use Rattle.net_build.specs.Registers.{register_bits}
 use Rattle.edge_select.specs.FrameTests.{start_bits}
-use Rattle.std.proofs.lemmas.Option.{slice_get-get_or}
+use Rattle.std.proofs.lemmas.Option.{slice_get-get_or, slice_get_within}
 use Rattle.wiring.specs.declared.netlist.Net.TheVariants.{Input}
 use Rattle.circuit.proofs.Placing.{tests_none}
 use Rattle.circuit.proofs.Leaving.{valid_shared}
@@ -23,5 +23,5 @@ returns-in_ok-net-in-None c = record {
   bits = adds_new c.args.plan.now c.args.tests.now (length c.args.outs.now) c.requires.next.within c.valid_from.new.b c.args.b.now c.in-None.ensures.none
       (subst (λ (l : ℕ). register_bits c.valid_from.new.b ≡ register_bits c.args.b.now + start_bits c.args.tests.now.counters (size_of c.args.tests.now.size) l) c.latency_of.ensures c.in_ok-net-in-None.ensures.bits);
   right = search rules;
-  shared = search rules;
+  shared = λ j out at same. absurd (c.in-None.ensures.none j (slice_get_within c.args.outs.now j out at) same);
 }
