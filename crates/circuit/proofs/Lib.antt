@@ -31,3 +31,4 @@ mod Registered
 pub mod Adding
 pub mod Driven
 pub mod Keeping
+pub mod Growing

@@ -5,7 +5,7 @@ use Rattle.dk_base.specs.Stencils.{place}
 use Rattle.wiring.specs.declared.right.Atom.{Atom}
 use Rattle.wiring.specs.declared.netlist.Net.{Net}
 use Rattle.wiring.specs.declared.netlist.Shape.{Shape}
-use Rattle.wiring.specs.Netlist.{Netlist, depth}
+use Rattle.wiring.specs.Netlist.{Netlist, depth, net_width}
 use Rattle.wiring.specs.BufferBits.{array_bits}
 use Rattle.net_build.specs.Indices.{read_indices, put_indices}
 use Rattle.buffer_plan.specs.Plans.{Plan, ages_of, width_of, depth_of}
@@ -16,6 +16,13 @@ use Rattle.line_buffer.specs.Indices.{IsReadOnce, IsReadAndPut, is_long, is_dire
 use Rattle.line_buffer.specs.Buffers.{IsBuffer, AddsBuffer}
 use Rattle.line_buffer.specs.Chains.{AreCopies, AreMadeOfShort}
 use Rattle.circuit.specs.Splits.{split_ages}
+use Rattle.circuit.specs.declared.slots.Slot.{Slot}
+use Rattle.circuit.specs.declared.forms.ImageNet.{ImageNet}
+use Rattle.line_buffer.specs.declared.sharing.Turns.{Turns}
+use Rattle.line_buffer.specs.SharedCounters.{AreTurns, CountsTurns}
+use Rattle.net_build.specs.Draft.{IsNet}
+use Rattle.circuit.specs.Taps.{Keeps}
+use Rattle.dk_base.specs.declared.TheConstants.{MAX_BUFFER_BITS}
 
 -- the arrays of a form, by a plan and an image; and where it holds an age of an image at a clock
 abbrev pub Shapes : Type 0
@@ -98,3 +105,39 @@ ring_places plan g age t = ring_place (first_array ring_shapes_of plan g) (ages_
 
 abbrev pub ring_form : Form
 ring_form = record { shapes = ring_shapes_of; places = ring_places; long = λ words. false; tap_levels = ring_operators; property = λ words reads puts. ⊤ }
+
+-- The word of an array at a place.
+pub record IsSlotOf (p : Place) (s : Slot) : Type 0 where
+  -- the array by its number
+  pub array : s.array ≡ p.array
+  -- the word by its number
+  pub word : s.word ≡ p.word
+
+-- The number of the first array of an image, which is that of few.
+pub record IsFirstArray (shapes : Shapes) (plan : Plan) (g n : ℕ) : Type 0 where
+  -- as many arrays as the kept images before it have
+  pub first : n ≡ first_array shapes plan g
+  -- no more than bits may be buffered
+  pub few : n ≤ MAX_BUFFER_BITS
+
+-- A kept image with its net, whose buffer a form can add: those of the kept images before it are there.
+pub record CanBuffer (b : Netlist) (plan : Plan) (form : Form) (own : ImageNet) (t : Turns) : Type 0 where
+  -- the image is kept
+  pub kept : Keeps plan own.image
+  -- the netlist has its net
+  pub net : IsNet b own.net
+  -- of the image's width
+  pub width : net_width b own.net ≡ width_of plan own.image
+  -- the arrays are those of the images before it
+  pub arrays : b.arrays ≡ shapes_before form.shapes plan own.image
+  -- their turns are these
+  pub turns : AreTurns b t
+
+-- The buffer of a kept image by its taps, and the turns of its arrays.
+pub record AddsImage (new old : Netlist) (plan : Plan) (form : Form) (own : ImageNet) (now before : Turns) (taps : List Net) : Type 0 where
+  -- the turns are those of the arrays
+  pub turns : AreTurns new now
+  -- a counter for each new number of words, and a copy for each long array
+  pub counts : CountsTurns new old now before form.long (form.shapes plan own.image)
+  -- what the form has done for the image
+  pub buffered : IsBuffered new old plan own.image form own.net taps

@@ -14,3 +14,6 @@ pub mod Modules
 pub mod Registers
 pub mod Ends
 pub mod Driven
+pub mod Growing
+pub mod Readers
+pub mod Whole

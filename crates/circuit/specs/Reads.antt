@@ -1,5 +1,5 @@
 -- The nets of an expression's leaves: of its reads, and of the tests of its shifted parts.
-use Rattle.std.specs.Prelude.{◌≡◌, ◌⊎◌, ℕ, ◌+◌, ◌==◌, if◌then◌else◌, Bool, List, ◌∷◌, length, slice_get, Option, Some, None, IfSome, IfNone, [], ◌++◌, Contains}
+use Rattle.std.specs.Prelude.{◌≡◌, ◌⊎◌, ℕ, ◌==◌, if◌then◌else◌, Bool, List, ◌∷◌, length, slice_get, Option, Some, None, IfSome, IfNone, [], ◌++◌, Contains}
 use Rattle.dk_base.specs.declared.stencils.LiveRead.{LiveRead}
 use Rattle.dk_base.specs.declared.ty.Ty.{Ty}
 use Rattle.dk_base.specs.Types.{width_of as bits_of_type}
@@ -125,6 +125,15 @@ pub record IsNetOf (b old : Netlist) (bits : ℕ) (choice : Option Net) (net : N
 pub record HaveNets (b first : Netlist) (p : Program) (plan : Plan) (taps : List (List Net)) (f : ℕ) (leaves : List LeafRead) (parts : List (List Step)) (all : BodyLeaves) : Type 0 where
   pub nets : AreLeafNets b first p plan taps f leaves parts all.nets.reads.items all.nets.bits.items
   pub placed : ArePlaced leaves all.known
+
+-- No leaves.
+pub record AreNoLeaves (all : BodyLeaves) : Type 0 where
+  -- no reads with nets
+  pub reads : all.nets.reads.items ≡ []
+  -- no bits
+  pub bits : all.nets.bits.items ≡ []
+  -- and no read is known
+  pub known : all.known ≡ []
 
 -- after the leaves that are there these are added, with their nets
 pub record AddsLeaves (b old : Netlist) (p : Program) (plan : Plan) (taps : List (List Net)) (f : ℕ) (leaves : List LeafRead) (parts : List (List Step)) (now before : BodyLeaves) : Type 0 where

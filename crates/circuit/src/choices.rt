@@ -1,22 +1,17 @@
 // The net of a read: of the taps of the image that is read the one to which the steps lead.
 
-ghost use Rattle.std.specs.Prelude.{◌≡◌, ◌<◌, [], ◌∷◌, ℕ, Contains, IfOk, IfSome, OnOk, IsTrue};
+ghost use Rattle.std.specs.Prelude.{◌≡◌, ◌<◌, [], ◌∷◌, ℕ, Contains, IfOk, OnOk, IsTrue};
 ghost use Rattle.dk_base.specs.Frames.{Size};
-ghost use Rattle.dk_base.specs.declared.stencils.LiveRead.{LiveRead};
 ghost use Rattle.dk_base.specs.Types.{width_of};
-ghost use Rattle.wiring.specs.Netlist.{Netlist, net_width};
 ghost use Rattle.wiring.specs.Sizes.{IsWidth};
-ghost use Rattle.net_build.specs.Includes.{Includes};
-ghost use Rattle.net_build.specs.Draft.{IsNet};
-ghost use Rattle.net_build.specs.Depth.{IsOver};
-ghost use Rattle.net_build.specs.Logic.{AddsLogic, Computes};
-ghost use Rattle.edge_select.specs.FrameTests.{AddsTests, AreFrameTests};
+ghost use Rattle.edge_select.specs.Logic.{Wires, WiresFrom};
 ghost use Rattle.edge_select.specs.Steps.{LeadBy};
 ghost use Rattle.circuit.specs.Rounds.{type_at};
 ghost use Rattle.circuit.specs.Leaves.{leaf_at};
-ghost use Rattle.circuit.specs.Taps.{IsReading, size_in};
-ghost use Rattle.circuit.specs.Reads.{ChoosesAlso, Chooses, IsReadNet, IsNetOf, reads_in, atom_of_choice, choice_nets, chosen_by};
-ghost use Rattle.circuit.specs.Registers.{AsksRead, AsksLeaf, AddsNeeded};
+ghost use Rattle.circuit.specs.Reads.{IsNetOf, reads_in, atom_of_choice, choice_nets, chosen_by};
+ghost use Rattle.circuit.specs.Registers.{AsksRead};
+ghost use Rattle.circuit.specs.Growing.{AreChosen, IsOfWidth};
+ghost use Rattle.circuit.specs.Readers.{AsksFor, ChoosesFor, ChoosesMore, GrowWith, IsReadFor, Reads, read_of};
 
 use crate::positions::test_at;
 use crate::reader::{Leaf, Reader, tap_of};
@@ -45,16 +40,9 @@ fn chosen_by(
     before: Option<Net>,
     bits: u8,
 ) -> Result<Net, OutOfMemory>
-    requires bits { IsWidth bits }
-    requires test { IsNet b.old test }
-    requires one_bit { net_width b.old test ≡ 1 }
-    requires tap { IsNet b.old tap }
-    requires tap_width { net_width b.old tap ≡ bits }
-    requires before { IfSome before (IsNet b.old) }
-    requires before_width { IfSome before (λ n. net_width b.old n ≡ bits) }
-    ensures logic { AddsLogic b.new b.old }
-    ensures net { IfOk result (Computes b.new b.old (test ∷ (tap ∷ choice_nets before)) bits (chosen_by test tap before)) }
-    ensures levels { IfOk result (IsOver b.new b.old 1 (test ∷ (tap ∷ choice_nets before))) }
+    requires { AreChosen b.old bits test tap before }
+    ensures { WiresFrom b.new b.old result 1 (test ∷ (tap ∷ choice_nets before)) bits
+        (chosen_by test tap before) }
 {
     let rest = atom_of(bits, before);
     let net = gate(b, Right::Choose(Atom::Net(test), Atom::Net(tap), rest))?;
@@ -70,15 +58,12 @@ fn with_tap(
     read: LiveRead,
     before: Option<Net>,
 ) -> Result<Option<Net>, OutOfMemory>
-    requires reading { IsReading b.old reader.now.ir.now reader.now.plan.now reader.now.taps.now reader.now.image }
-    requires tests { AreFrameTests b.old (size_in reader.now.plan.now) tests.old }
+    requires reader { Reads b.old reader.now tests.old }
     requires read { Contains (reads_in reader.now.plan.now reader.now.image) read }
-    requires before { IfSome before (IsNet b.old) }
-    requires before_width { IfSome before (λ n. net_width b.old n ≡ width_of (type_at reader.now.ir.now read.g)) }
-    ensures adds { OnOk result (AddsTests b.new b.old tests.new tests.old) }
-    ensures tests { OnOk result (AreFrameTests b.new (size_in reader.now.plan.now) tests.new) }
-    ensures needed { OnOk result (AddsNeeded b.new b.old tests.new tests.old reader.now.plan.now (AsksRead reader.now.image (leaf_at read.g steps.now) read)) }
-    ensures choice { IfOk result (ChoosesAlso b.new b.old reader.now.ir.now reader.now.plan.now reader.now.taps.now reader.now.image
+    requires before { IsOfWidth b.old (width_of (type_at reader.now.ir.now read.g)) before }
+    ensures grows { OnOk result (GrowWith b.new b.old tests.new tests.old reader.now
+        (AsksRead reader.now.image (leaf_at read.g steps.now) read)) }
+    ensures choice { IfOk result (ChoosesMore b.new b.old reader.now
         (leaf_at read.g steps.now) read before) }
 {
     let plan = reader.plan;
@@ -97,7 +82,8 @@ fn with_tap(
 
 // Whether a step is not clamped and leads by another offset than the read's.
 fn differs(step: Step, read: LiveRead) -> bool
-    ensures { IsTrue result → (size : Size) (x y : ℕ) → LeadBy size (step ∷ []) read.dx read.dy x y → ⊥ }
+    ensures { IsTrue result → (size : Size) (x y : ℕ)
+        → LeadBy size (step ∷ []) read.dx read.dy x y → ⊥ }
 {
     match step.edge {
         Edge::Clamp => false,
@@ -107,7 +93,8 @@ fn differs(step: Step, read: LiveRead) -> bool
 
 // Fast path: true if the path is a single step that leads by this offset. It is asked of every read of an image for every leaf, and most leaves are at the end of one step.
 fn misses(steps: &[Step], read: LiveRead) -> bool
-    ensures { IsTrue result → (size : Size) (x y : ℕ) → LeadBy size steps.now read.dx read.dy x y → ⊥ }
+    ensures { IsTrue result → (size : Size) (x y : ℕ)
+        → LeadBy size steps.now read.dx read.dy x y → ⊥ }
 {
     if steps.len() != 1 {
         return false;
@@ -127,16 +114,13 @@ fn with_read(
     read: LiveRead,
     before: Option<Net>,
 ) -> Result<Option<Net>, OutOfMemory>
-    requires reading { IsReading b.old reader.now.ir.now reader.now.plan.now reader.now.taps.now reader.now.image }
-    requires tests { AreFrameTests b.old (size_in reader.now.plan.now) tests.old }
+    requires reader { Reads b.old reader.now tests.old }
     requires read { Contains (reads_in reader.now.plan.now reader.now.image) read }
-    requires before { IfSome before (IsNet b.old) }
-    requires before_width { IfSome before (λ n. net_width b.old n ≡ width_of (type_at reader.now.ir.now leaf.image)) }
-    ensures adds { OnOk result (AddsTests b.new b.old tests.new tests.old) }
-    ensures tests { OnOk result (AreFrameTests b.new (size_in reader.now.plan.now) tests.new) }
-    ensures needed { OnOk result (AddsNeeded b.new b.old tests.new tests.old reader.now.plan.now (AsksRead reader.now.image (leaf_at leaf.entry.image leaf.entry.steps.now) read)) }
-    ensures choice { IfOk result (ChoosesAlso b.new b.old reader.now.ir.now reader.now.plan.now reader.now.taps.now reader.now.image
-        (leaf_at leaf.entry.image leaf.entry.steps.now) read before) }
+    requires before { IsOfWidth b.old (width_of (type_at reader.now.ir.now leaf.image)) before }
+    ensures grows { OnOk result (GrowWith b.new b.old tests.new tests.old reader.now
+        (AsksRead reader.now.image (read_of leaf.entry) read)) }
+    ensures choice { IfOk result (ChoosesMore b.new b.old reader.now
+        (read_of leaf.entry) read before) }
 {
     if read.g != leaf.image {
         return Ok(before);
@@ -156,12 +140,10 @@ fn choice_of(
     tests: &mut FrameTests,
     leaf: Leaf,
 ) -> Result<Option<Net>, OutOfMemory>
-    requires reading { IsReading b.old reader.now.ir.now reader.now.plan.now reader.now.taps.now reader.now.image }
-    requires tests { AreFrameTests b.old (size_in reader.now.plan.now) tests.old }
-    ensures adds { OnOk result (AddsTests b.new b.old tests.new tests.old) }
-    ensures tests { OnOk result (AreFrameTests b.new (size_in reader.now.plan.now) tests.new) }
-    ensures needed { OnOk result (AddsNeeded b.new b.old tests.new tests.old reader.now.plan.now (AsksLeaf reader.now.plan.now reader.now.image (leaf_at leaf.entry.image leaf.entry.steps.now))) }
-    ensures choice { IfOk result (Chooses b.new b.old reader.now.ir.now reader.now.plan.now reader.now.taps.now reader.now.image (leaf_at leaf.entry.image leaf.entry.steps.now)) }
+    requires { Reads b.old reader.now tests.old }
+    ensures grows { OnOk result (GrowWith b.new b.old tests.new tests.old reader.now
+        (AsksFor reader.now (read_of leaf.entry))) }
+    ensures choice { IfOk result (ChoosesFor b.new b.old reader.now (read_of leaf.entry)) }
 {
     let mut choice = None;
     for read in reader.plan.reads(reader.image) {
@@ -173,8 +155,7 @@ fn choice_of(
 // The net of a choice, or one that is 0.
 fn net_of(b: &mut Builder, bits: u8, choice: Option<Net>) -> Result<Net, OutOfMemory>
     requires bits { IsWidth bits }
-    ensures logic { AddsLogic b.new b.old }
-    ensures net { IfOk result (IsNetOf b.new b.old bits choice) }
+    ensures { Wires b.new b.old result (IsNetOf b.new b.old bits choice) }
 {
     match choice {
         Some(net) => Ok(net),
@@ -192,15 +173,11 @@ pub fn read_net(
     tests: &mut FrameTests,
     leaf: Leaf,
 ) -> Result<(Ty, Net), OutOfMemory>
-    requires reading { IsReading b.old reader.now.ir.now reader.now.plan.now reader.now.taps.now reader.now.image }
-    requires tests { AreFrameTests b.old (size_in reader.now.plan.now) tests.old }
+    requires reader { Reads b.old reader.now tests.old }
     requires earlier { leaf.image < reader.now.image }
-    ensures adds { OnOk result (AddsTests b.new b.old tests.new tests.old) }
-    ensures tests { OnOk result (AreFrameTests b.new (size_in reader.now.plan.now) tests.new) }
-    ensures needed { OnOk result (AddsNeeded b.new b.old tests.new tests.old reader.now.plan.now (AsksLeaf reader.now.plan.now reader.now.image (leaf_at leaf.entry.image leaf.entry.steps.now))) }
-    ensures ty { IfOk result (λ n. n.0 ≡ type_at reader.now.ir.now leaf.entry.image) }
-    ensures net { IfOk result (λ n. (first : Netlist) → Includes b.old first
-        → IsReadNet b.new first reader.now.plan.now reader.now.taps.now reader.now.image (leaf_at leaf.entry.image leaf.entry.steps.now) (width_of n.0) n.1) }
+    ensures grows { OnOk result (GrowWith b.new b.old tests.new tests.old reader.now
+        (AsksFor reader.now (read_of leaf.entry))) }
+    ensures read { IfOk result (IsReadFor b.new b.old reader.now (read_of leaf.entry)) }
 {
     reader.ir.law();
     let ty = reader.ir.type_of(leaf.image);

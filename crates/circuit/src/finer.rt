@@ -30,7 +30,8 @@ fn ascends(ages: &[u64]) -> bool
 // The place of an age among ages that ascend.
 fn place_among(split: &[u64], age: u64) -> Option<usize>
     requires { IsStrictlyIncreasing split.now }
-    ensures { MatchOption result (Contains split.now age → ⊥) (λ k. slice_get split.now k ≡ Some age) }
+    ensures { MatchOption result (Contains split.now age → ⊥)
+        (λ k. slice_get split.now k ≡ Some age) }
 {
     match split.binary_search(&age) {
         Ok(place) => Some(place),

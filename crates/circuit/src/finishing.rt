@@ -2,18 +2,12 @@
 
 ghost use Rattle.std.specs.Prelude.{◌≡◌, IfOk, length};
 ghost use Rattle.net_build.specs.Naming.{names_for};
-ghost use Rattle.net_build.specs.Runs.{IsWhole, RunsOn};
 ghost use Rattle.pointwise_ir.specs.Stencils.{AreStencilsOf};
 ghost use Rattle.dk_base.specs.FrameSizes.{size_of};
 ghost use Rattle.edge_select.specs.FrameTests.{AreFrameTests};
-ghost use Rattle.circuit.specs.Forms.{shapes_of, HasProperty};
 ghost use Rattle.circuit.specs.Taps.{HaveTaps, AreTapsOf};
-ghost use Rattle.circuit.specs.Images.{AreBuiltWith};
-ghost use Rattle.circuit.specs.Behaviour.{HasPorts, AreReadNets};
-ghost use Rattle.circuit.specs.Nets.{IsApart, AreComputed};
-ghost use Rattle.circuit.specs.Modules.{IsModuleOf};
-ghost use Rattle.circuit.specs.Registers.{CountsRegisters, HasRegisters};
 ghost use Rattle.circuit.specs.Ends.{CanEnd, IsClosed};
+ghost use Rattle.circuit.specs.Whole.{HasImages, IsBuiltBy};
 
 use crate::forms::BufferForm;
 use crate::outs::all_outs;
@@ -69,7 +63,8 @@ fn closed(
 // The taps of all live reads, in order.
 fn read_nets(alloc: Global, plan: &Plan, taps: &[Taps]) -> Result<Vec<Net>, OutOfMemory>
     requires taps { HaveTaps plan.now taps.now }
-    ensures { IfOk result (λ reads. AreTapsOf plan.now taps.now (length plan.now.system.stencils.reads) reads.items) }
+    ensures { IfOk result (λ reads. AreTapsOf plan.now taps.now
+        (length plan.now.system.stencils.reads) reads.items) }
 {
     plan.law();
     let mut reads = Vec::new(alloc);
@@ -89,19 +84,9 @@ pub fn finished<F: BufferForm>(
     images: BuiltImages,
 ) -> Result<Built, OutOfMemory>
     requires stencils { AreStencilsOf ir.now plan.now.system.stencils }
-    requires built { AreBuiltWith b ir.now plan.now (F.form form.now) (length plan.now.system.stencils.images) images.nets.items images.taps.items images.tests }
-    requires registers { CountsRegisters b ir.now plan.now (F.form form.now).long images.turns images.tests }
-    ensures ports { IfOk result (λ r. HasPorts r.module.netlist ir.now b.enable) }
-    ensures named { IfOk result (λ r. r.module.names ≡ names_for r.module.netlist) }
-    ensures whole { IfOk result (λ r. IsWhole r.module.netlist r.module.netlist) }
-    ensures runs { IfOk result (λ r. RunsOn r.module.netlist) }
-    ensures circuit { IfOk result (λ r. IsModuleOf r.module.netlist ir.now plan.now (F.form form.now) r.nets.items) }
-    ensures reads { IfOk result (λ r. AreReadNets r.module.netlist ir.now plan.now r.reads.items) }
-    ensures computed { IfOk result (λ r. AreComputed r.module.netlist ir.now plan.now (F.form form.now) r.nets.items r.reads.items) }
-    ensures arrays { IfOk result (λ r. r.module.netlist.arrays ≡ shapes_of (F.form form.now).shapes plan.now plan.now.system.stencils.images) }
-    ensures property { IfOk result (λ r. HasProperty r.module.netlist (F.form form.now).property) }
-    ensures apart { IfOk result (λ r. IsApart r.module.netlist ir.now plan.now (F.form form.now) r.nets.items) }
-    ensures registers { IfOk result (λ r. HasRegisters r.module.netlist ir.now plan.now (F.form form.now).long) }
+    requires images { HasImages b ir.now plan.now (F.form form.now)
+        (length plan.now.system.stencils.images) images }
+    ensures { IfOk result (IsBuiltBy ir.now plan.now (F.form form.now) b.enable) }
 {
     plan.law();
     let reads = read_nets(images.alloc, plan, &images.taps)?;

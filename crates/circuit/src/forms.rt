@@ -1,13 +1,10 @@
 // Forms of buffers.
 
-ghost use Rattle.std.specs.Prelude.{◌≡◌, ◌<◌, ◌≤◌, IfOk, OnOk};
-ghost use Rattle.wiring.specs.Netlist.{net_width};
+ghost use Rattle.std.specs.Prelude.{◌≡◌, ◌<◌, ◌≤◌, IfOk};
 ghost use Rattle.net_build.specs.Includes.{Includes};
-ghost use Rattle.net_build.specs.Draft.{IsNet};
-ghost use Rattle.buffer_plan.specs.Plans.{width_of, depth_of};
-ghost use Rattle.line_buffer.specs.SharedCounters.{AreTurns, CountsTurns};
+ghost use Rattle.buffer_plan.specs.Plans.{depth_of};
 ghost use Rattle.circuit.specs.Taps.{Keeps};
-ghost use Rattle.circuit.specs.Forms.{Form, IsBuffered, shapes_before, chain_form, block_form, ring_form};
+ghost use Rattle.circuit.specs.Forms.{AddsImage, CanBuffer, Form, IsSlotOf, chain_form, block_form, ring_form};
 
 use crate::finer::{split_of, taps_among};
 use crate::slots::{Slot, block_slot, chain_slot, ring_slot};
@@ -37,8 +34,7 @@ pub trait BufferForm {
         requires kept { Keeps plan.now image }
         requires some { 0 < age }
         requires deep { age ≤ depth_of plan.now image }
-        ensures array { result.array ≡ ((form self.now).places plan.now image age clock).array }
-        ensures word { result.word ≡ ((form self.now).places plan.now image age clock).word };
+        ensures { IsSlotOf ((form self.now).places plan.now image age clock) result };
 
     /// Adds the buffer of a kept image to its net, after those of the kept images before it. Arrays of the same number of words share a counter, among those in `turns` and new ones.
     fn add(
@@ -49,15 +45,10 @@ pub trait BufferForm {
         b: &mut Builder,
         turns: &mut Turns,
     ) -> Result<Taps, OutOfMemory>
-        requires kept { Keeps plan.now own.image }
-        requires net { IsNet b.old own.net }
-        requires width { net_width b.old own.net ≡ width_of plan.now own.image }
-        requires arrays { b.old.arrays ≡ shapes_before (form self.now).shapes plan.now own.image }
-        requires turns { AreTurns b.old turns.old }
+        requires { CanBuffer b.old plan.now (form self.now) own turns.old }
         ensures includes { Includes b.new b.old }
-        ensures turns { OnOk result (AreTurns b.new turns.new) }
-        ensures counts { OnOk result (CountsTurns b.new b.old turns.new turns.old (form self.now).long ((form self.now).shapes plan.now own.image)) }
-        ensures buffered { IfOk result (IsBuffered b.new b.old plan.now own.image (form self.now) own.net) };
+        ensures image { IfOk result
+            (AddsImage b.new b.old plan.now (form self.now) own turns.new turns.old) };
 }
 
 /// A ring of words for each image whose depth is above 0, which is read once for each age.

@@ -4,10 +4,9 @@ ghost use Rattle.std.specs.Prelude.{IfOk, OnOk};
 ghost use Rattle.pointwise_ir.specs.Trees.{tree_of};
 ghost use Rattle.pointwise_ir.specs.Programs.{IsBody};
 ghost use Rattle.net_build.specs.Includes.{Includes};
-ghost use Rattle.edge_select.specs.FrameTests.{AddsTests, AreFrameTests};
-ghost use Rattle.circuit.specs.Taps.{IsReading, size_in};
-ghost use Rattle.circuit.specs.Images.{IsImageNet, ports_of};
-ghost use Rattle.circuit.specs.Registers.{IsAsked, AddsNeeded};
+ghost use Rattle.circuit.specs.Images.{ports_of};
+ghost use Rattle.circuit.specs.Registers.{IsAsked};
+ghost use Rattle.circuit.specs.Readers.{GrowWith, IsNetFor, Reads};
 
 use crate::known::BodyLeaves;
 use crate::leaves::push_leaves;
@@ -28,13 +27,11 @@ fn body_net(
     tests: &mut FrameTests,
     body: &Expr,
 ) -> Result<Net, OutOfMemory>
-    requires reading { IsReading b.old reader.now.ir.now reader.now.plan.now reader.now.taps.now reader.now.image }
-    requires tests { AreFrameTests b.old (size_in reader.now.plan.now) tests.old }
+    requires reader { Reads b.old reader.now tests.old }
     requires body { IsBody reader.now.ir.now reader.now.image (tree_of body.now) }
-    ensures adds { OnOk result (AddsTests b.new b.old tests.new tests.old) }
-    ensures tests { OnOk result (AreFrameTests b.new (size_in reader.now.plan.now) tests.new) }
-    ensures needed { OnOk result (AddsNeeded b.new b.old tests.new tests.old reader.now.plan.now (IsAsked reader.now.ir.now reader.now.plan.now)) }
-    ensures net { IfOk result (IsImageNet b.new b.old reader.now.ir.now reader.now.plan.now reader.now.taps.now reader.now.image) }
+    ensures grows { OnOk result (GrowWith b.new b.old tests.new tests.old reader.now
+        (IsAsked reader.now.ir.now reader.now.plan.now)) }
+    ensures net { IfOk result (IsNetFor b.new b.old reader.now) }
 {
     reader.ir.law();
     reader.plan.law();
@@ -52,13 +49,11 @@ pub fn image_net(
     reader: &Reader,
     tests: &mut FrameTests,
 ) -> Result<Net, OutOfMemory>
-    requires reading { IsReading b.old reader.now.ir.now reader.now.plan.now reader.now.taps.now reader.now.image }
-    requires tests { AreFrameTests b.old (size_in reader.now.plan.now) tests.old }
+    requires reader { Reads b.old reader.now tests.old }
     requires ports { Includes b.old (ports_of reader.now.ir.now b.old.enable) }
-    ensures adds { OnOk result (AddsTests b.new b.old tests.new tests.old) }
-    ensures tests { OnOk result (AreFrameTests b.new (size_in reader.now.plan.now) tests.new) }
-    ensures needed { OnOk result (AddsNeeded b.new b.old tests.new tests.old reader.now.plan.now (IsAsked reader.now.ir.now reader.now.plan.now)) }
-    ensures net { IfOk result (IsImageNet b.new b.old reader.now.ir.now reader.now.plan.now reader.now.taps.now reader.now.image) }
+    ensures grows { OnOk result (GrowWith b.new b.old tests.new tests.old reader.now
+        (IsAsked reader.now.ir.now reader.now.plan.now)) }
+    ensures net { IfOk result (IsNetFor b.new b.old reader.now) }
 {
     reader.ir.law();
     let inputs = reader.ir.inputs().len();

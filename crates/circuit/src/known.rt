@@ -113,12 +113,10 @@ impl KnownReads {
 }
 
 impl BodyLeaves {
-    ghost use Rattle.std.specs.Prelude.{◌≡◌, []};
+    ghost use Rattle.circuit.specs.Reads.{AreNoLeaves};
 
     pub fn new(alloc: Global) -> BodyLeaves
-        ensures reads { result.nets.reads.items ≡ [] }
-        ensures bits { result.nets.bits.items ≡ [] }
-        ensures known { result.known ≡ [] }
+        ensures { AreNoLeaves result }
     {
         BodyLeaves {
             nets: Leaves {

@@ -2,12 +2,10 @@
 
 ghost use Rattle.std.specs.Prelude.{◌≡◌, ◌++◌, ◌∷◌, [], ◌<◌, IfSome, OnOk};
 ghost use Rattle.pointwise_ir.specs.Trees.{tree_of};
-ghost use Rattle.edge_select.specs.FrameTests.{AddsTests, AreFrameTests};
 ghost use Rattle.circuit.specs.Leaves.{leaf_at, reads_of, bits_of, own_bit, ReadsBefore};
 ghost use Rattle.circuit.specs.Known.{leaf_of, IsKnownNet};
-ghost use Rattle.circuit.specs.Taps.{IsReading, size_in};
-ghost use Rattle.circuit.specs.Reads.{AddsLeaves};
-ghost use Rattle.circuit.specs.Registers.{AsksLeaf, AsksParts, Asks, AddsNeeded};
+ghost use Rattle.circuit.specs.Registers.{AsksParts, Asks};
+ghost use Rattle.circuit.specs.Readers.{AddsFor, AsksFor, GrowWith, Reads, read_of};
 
 use crate::choices::read_net;
 use crate::known::{BodyLeaves, ReadKey};
@@ -34,7 +32,8 @@ fn step_by(edge: Edge, dx: i32, dy: i32) -> Step
 
 // The net of a read that is known.
 fn known_net(leaves: &BodyLeaves, key: &ReadKey) -> Option<(Ty, Net)>
-    ensures { IfSome result (IsKnownNet leaves.now.nets.reads.items leaves.now.known (leaf_of key.now)) }
+    ensures { IfSome result
+        (IsKnownNet leaves.now.nets.reads.items leaves.now.known (leaf_of key.now)) }
 {
     let place = leaves.known.find(key)?;
     leaves.nets.reads.get(place).copied()
@@ -49,14 +48,12 @@ fn push_new(
     key: ReadKey,
     leaves: &mut BodyLeaves,
 ) -> Result<(), OutOfMemory>
-    requires reading { IsReading b.old reader.now.ir.now reader.now.plan.now reader.now.taps.now reader.now.image }
-    requires tests { AreFrameTests b.old (size_in reader.now.plan.now) tests.old }
+    requires reader { Reads b.old reader.now tests.old }
     requires earlier { leaf.image < reader.now.image }
-    requires key { leaf_of key ≡ leaf_at leaf.image leaf.steps.now }
-    ensures adds { OnOk result (AddsTests b.new b.old tests.new tests.old) }
-    ensures tests { OnOk result (AreFrameTests b.new (size_in reader.now.plan.now) tests.new) }
-    ensures needed { OnOk result (AddsNeeded b.new b.old tests.new tests.old reader.now.plan.now (AsksLeaf reader.now.plan.now reader.now.image (leaf_at leaf.entry.image leaf.entry.steps.now))) }
-    ensures leaves { OnOk result (AddsLeaves b.new b.old reader.now.ir.now reader.now.plan.now reader.now.taps.now reader.now.image
+    requires key { leaf_of key ≡ read_of leaf }
+    ensures grows { OnOk result (GrowWith b.new b.old tests.new tests.old reader.now
+        (AsksFor reader.now (read_of leaf.entry))) }
+    ensures leaves { OnOk result (AddsFor b.new b.old reader.now
         (leaf_at leaf.entry.image leaf.entry.steps.now ∷ []) [] leaves.new leaves.old) }
 {
     let net = read_net(b, reader, tests, leaf)?;
@@ -73,13 +70,11 @@ fn push_net(
     leaf: Leaf,
     leaves: &mut BodyLeaves,
 ) -> Result<(), OutOfMemory>
-    requires reading { IsReading b.old reader.now.ir.now reader.now.plan.now reader.now.taps.now reader.now.image }
-    requires tests { AreFrameTests b.old (size_in reader.now.plan.now) tests.old }
+    requires reader { Reads b.old reader.now tests.old }
     requires earlier { leaf.image < reader.now.image }
-    ensures adds { OnOk result (AddsTests b.new b.old tests.new tests.old) }
-    ensures tests { OnOk result (AreFrameTests b.new (size_in reader.now.plan.now) tests.new) }
-    ensures needed { OnOk result (AddsNeeded b.new b.old tests.new tests.old reader.now.plan.now (AsksLeaf reader.now.plan.now reader.now.image (leaf_at leaf.entry.image leaf.entry.steps.now))) }
-    ensures leaves { OnOk result (AddsLeaves b.new b.old reader.now.ir.now reader.now.plan.now reader.now.taps.now reader.now.image
+    ensures grows { OnOk result (GrowWith b.new b.old tests.new tests.old reader.now
+        (AsksFor reader.now (read_of leaf.entry))) }
+    ensures leaves { OnOk result (AddsFor b.new b.old reader.now
         (leaf_at leaf.entry.image leaf.entry.steps.now ∷ []) [] leaves.new leaves.old) }
 {
     let key = leaves.known.key(leaf.image, leaf.steps)?;
@@ -104,15 +99,14 @@ fn push_read(
     read: StepRead,
     leaves: &mut BodyLeaves,
 ) -> Result<(), OutOfMemory>
-    requires reading { IsReading b.old reader.now.ir.now reader.now.plan.now reader.now.taps.now reader.now.image }
-    requires tests { AreFrameTests b.old (size_in reader.now.plan.now) tests.old }
+    requires reader { Reads b.old reader.now tests.old }
     requires earlier { read.image < reader.now.image }
-    ensures adds { OnOk result (AddsTests b.new b.old tests.new tests.old) }
-    ensures tests { OnOk result (AreFrameTests b.new (size_in reader.now.plan.now) tests.new) }
-    ensures needed { OnOk result (AddsNeeded b.new b.old tests.new tests.old reader.now.plan.now (AsksLeaf reader.now.plan.now reader.now.image (leaf_at read.image (steps.old.items ++ read.step ∷ [])))) }
+    ensures grows { OnOk result (GrowWith b.new b.old tests.new tests.old reader.now
+        (AsksFor reader.now (leaf_at read.image (steps.old.items ++ read.step ∷ [])))) }
     ensures steps { OnOk result (steps.new.items ≡ steps.old.items) }
-    ensures leaves { OnOk result (AddsLeaves b.new b.old reader.now.ir.now reader.now.plan.now reader.now.taps.now reader.now.image
-        ((record { image = read.image; steps = steps.old.items ++ read.step ∷ [] }) ∷ []) [] leaves.new leaves.old) }
+    ensures leaves { OnOk result (AddsFor b.new b.old reader.now
+        (leaf_at read.image (steps.old.items ++ read.step ∷ []) ∷ [])
+        [] leaves.new leaves.old) }
 {
     steps.push(read.step)?;
     let leaf = Leaf {
@@ -133,12 +127,10 @@ fn push_test(
     edge: Edge,
     leaves: &mut BodyLeaves,
 ) -> Result<(), OutOfMemory>
-    requires reading { IsReading b.old reader.now.ir.now reader.now.plan.now reader.now.taps.now reader.now.image }
-    requires tests { AreFrameTests b.old (size_in reader.now.plan.now) tests.old }
-    ensures adds { OnOk result (AddsTests b.new b.old tests.new tests.old) }
-    ensures tests { OnOk result (AreFrameTests b.new (size_in reader.now.plan.now) tests.new) }
-    ensures needed { OnOk result (AddsNeeded b.new b.old tests.new tests.old reader.now.plan.now (AsksParts reader.now.image (own_bit edge steps.now))) }
-    ensures leaves { OnOk result (AddsLeaves b.new b.old reader.now.ir.now reader.now.plan.now reader.now.taps.now reader.now.image
+    requires { Reads b.old reader.now tests.old }
+    ensures grows { OnOk result (GrowWith b.new b.old tests.new tests.old reader.now
+        (AsksParts reader.now.image (own_bit edge steps.now))) }
+    ensures leaves { OnOk result (AddsFor b.new b.old reader.now
         [] (own_bit edge steps.now) leaves.new leaves.old) }
 {
     match edge {
@@ -152,9 +144,9 @@ fn push_test(
 }
 
 // A law, called where the leaves of a part come after others: what they need is known there.
-fn still_law(b: &Builder, reader: &Reader)
-    requires { IsReading b.now reader.now.ir.now reader.now.plan.now reader.now.taps.now reader.now.image }
-    ensures { IsReading b.now reader.now.ir.now reader.now.plan.now reader.now.taps.now reader.now.image }
+fn still_law(b: &Builder, reader: &Reader, tests: &FrameTests)
+    requires { Reads b.now reader.now tests.now }
+    ensures { Reads b.now reader.now tests.now }
 {}
 
 // Adds the nets of the leaves of an expression that is at the end of these steps. It calls itself as deep as the expression is.
@@ -166,15 +158,15 @@ pub fn push_leaves(
     steps: &mut Vec<Step>,
     leaves: &mut BodyLeaves,
 ) -> Result<(), OutOfMemory>
-    requires reading { IsReading b.old reader.now.ir.now reader.now.plan.now reader.now.taps.now reader.now.image }
-    requires tests { AreFrameTests b.old (size_in reader.now.plan.now) tests.old }
+    requires reader { Reads b.old reader.now tests.old }
     requires earlier { ReadsBefore reader.now.image (tree_of e.now) }
-    ensures adds { OnOk result (AddsTests b.new b.old tests.new tests.old) }
-    ensures tests { OnOk result (AreFrameTests b.new (size_in reader.now.plan.now) tests.new) }
-    ensures needed { OnOk result (AddsNeeded b.new b.old tests.new tests.old reader.now.plan.now (Asks reader.now.plan.now reader.now.image (reads_of (tree_of e.now) steps.old.items) (bits_of (tree_of e.now) steps.old.items))) }
+    ensures grows { OnOk result (GrowWith b.new b.old tests.new tests.old reader.now
+        (Asks reader.now.plan.now reader.now.image
+        (reads_of (tree_of e.now) steps.old.items) (bits_of (tree_of e.now) steps.old.items))) }
     ensures steps { OnOk result (steps.new.items ≡ steps.old.items) }
-    ensures leaves { OnOk result (AddsLeaves b.new b.old reader.now.ir.now reader.now.plan.now reader.now.taps.now reader.now.image
-        (reads_of (tree_of e.now) steps.old.items) (bits_of (tree_of e.now) steps.old.items) leaves.new leaves.old) }
+    ensures leaves { OnOk result (AddsFor b.new b.old reader.now
+        (reads_of (tree_of e.now) steps.old.items) (bits_of (tree_of e.now) steps.old.items)
+        leaves.new leaves.old) }
 {
     match e {
         Expr::Constant(_, _) => Ok(()),
@@ -186,7 +178,7 @@ pub fn push_leaves(
         Expr::Shifted(edge, dx, dy, body) => {
             steps.push(step_by(*edge, *dx, *dy))?;
             push_test(b, reader, tests, steps, *edge, leaves)?;
-            still_law(b, reader);
+            still_law(b, reader, tests);
             push_leaves(body, b, reader, tests, steps, leaves)?;
             steps.pop();
             Ok(())
@@ -194,15 +186,15 @@ pub fn push_leaves(
         Expr::Unary(_, body) => push_leaves(body, b, reader, tests, steps, leaves),
         Expr::Binary(_, left, right) => {
             push_leaves(left, b, reader, tests, steps, leaves)?;
-            still_law(b, reader);
+            still_law(b, reader, tests);
             push_leaves(right, b, reader, tests, steps, leaves)?;
             Ok(())
         }
         Expr::Select(condition, first, second) => {
             push_leaves(condition, b, reader, tests, steps, leaves)?;
-            still_law(b, reader);
+            still_law(b, reader, tests);
             push_leaves(first, b, reader, tests, steps, leaves)?;
-            still_law(b, reader);
+            still_law(b, reader, tests);
             push_leaves(second, b, reader, tests, steps, leaves)?;
             Ok(())
         }

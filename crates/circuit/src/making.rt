@@ -1,16 +1,9 @@
 // The module of a program.
 
 ghost use Rattle.std.specs.Prelude.{◌≡◌, ◌<◌, suc, false, IfOk, length, OnOk};
-ghost use Rattle.net_build.specs.Naming.{names_for};
-ghost use Rattle.net_build.specs.Runs.{IsWhole, RunsOn};
 ghost use Rattle.pointwise_ir.specs.Stencils.{AreStencilsOf};
-ghost use Rattle.line_buffer.specs.SharedCounters.{AreTurns};
-ghost use Rattle.circuit.specs.Forms.{shapes_of, HasProperty};
-ghost use Rattle.circuit.specs.Images.{AreBuiltWith};
-ghost use Rattle.circuit.specs.Behaviour.{IsPlanOf, HasPorts, AreReadNets};
-ghost use Rattle.circuit.specs.Nets.{IsApart, AreComputed};
-ghost use Rattle.circuit.specs.Modules.{IsModuleOf};
-ghost use Rattle.circuit.specs.Registers.{CountsRegisters, HasRegisters};
+ghost use Rattle.circuit.specs.Behaviour.{IsPlanOf};
+ghost use Rattle.circuit.specs.Whole.{HasImages, IsBuiltBy};
 
 use crate::finishing::{Built, BuiltImages, finished};
 use crate::forms::{BufferForm, ImageNet};
@@ -37,13 +30,10 @@ fn add_image<F: BufferForm>(
 ) -> Result<(), OutOfMemory>
     requires stencils { AreStencilsOf ir.now plan.now.system.stencils }
     requires within { k < length plan.now.system.stencils.images }
-    requires turns { AreTurns b.old images.old.turns }
-    requires built { AreBuiltWith b.old ir.now plan.now (F.form form.now) k images.old.nets.items images.old.taps.items images.old.tests }
-    requires registers { CountsRegisters b.old ir.now plan.now (F.form form.now).long images.old.turns images.old.tests }
+    requires images { HasImages b.old ir.now plan.now (F.form form.now) k images.old }
     ensures enable { OnOk result (b.new.enable ≡ b.old.enable) }
-    ensures turns { OnOk result (AreTurns b.new images.new.turns) }
-    ensures built { OnOk result (AreBuiltWith b.new ir.now plan.now (F.form form.now) (suc k) images.new.nets.items images.new.taps.items images.new.tests) }
-    ensures registers { OnOk result (CountsRegisters b.new ir.now plan.now (F.form form.now).long images.new.turns images.new.tests) }
+    ensures images { OnOk result
+        (HasImages b.new ir.now plan.now (F.form form.now) (suc k) images.new) }
 {
     plan.law();
     let image = plan.images()[k].number;
@@ -77,12 +67,10 @@ fn add_images<F: BufferForm>(
     images: &mut BuiltImages,
 ) -> Result<(), OutOfMemory>
     requires stencils { AreStencilsOf ir.now plan.now.system.stencils }
-    requires turns { AreTurns b.old images.old.turns }
-    requires built { AreBuiltWith b.old ir.now plan.now (F.form form.now) 0 images.old.nets.items images.old.taps.items images.old.tests }
-    requires registers { CountsRegisters b.old ir.now plan.now (F.form form.now).long images.old.turns images.old.tests }
+    requires images { HasImages b.old ir.now plan.now (F.form form.now) 0 images.old }
     ensures enable { OnOk result (b.new.enable ≡ b.old.enable) }
-    ensures built { OnOk result (AreBuiltWith b.new ir.now plan.now (F.form form.now) (length plan.now.system.stencils.images) images.new.nets.items images.new.taps.items images.new.tests) }
-    ensures registers { OnOk result (CountsRegisters b.new ir.now plan.now (F.form form.now).long images.new.turns images.new.tests) }
+    ensures images { OnOk result (HasImages b.new ir.now plan.now (F.form form.now)
+        (length plan.now.system.stencils.images) images.new) }
 {
     for k in 0..plan.images().len() {
         add_image(b, ir, plan, form, images, k)?;
@@ -99,17 +87,7 @@ pub fn build_with<F: BufferForm>(
     options: Options,
 ) -> Result<Built, OutOfMemory>
     requires plan { IsPlanOf ir.now plan.now options }
-    ensures ports { IfOk result (λ r. HasPorts r.module.netlist ir.now options.enable) }
-    ensures named { IfOk result (λ r. r.module.names ≡ names_for r.module.netlist) }
-    ensures whole { IfOk result (λ r. IsWhole r.module.netlist r.module.netlist) }
-    ensures runs { IfOk result (λ r. RunsOn r.module.netlist) }
-    ensures circuit { IfOk result (λ r. IsModuleOf r.module.netlist ir.now plan.now (F.form form.now) r.nets.items) }
-    ensures reads { IfOk result (λ r. AreReadNets r.module.netlist ir.now plan.now r.reads.items) }
-    ensures computed { IfOk result (λ r. AreComputed r.module.netlist ir.now plan.now (F.form form.now) r.nets.items r.reads.items) }
-    ensures arrays { IfOk result (λ r. r.module.netlist.arrays ≡ shapes_of (F.form form.now).shapes plan.now plan.now.system.stencils.images) }
-    ensures property { IfOk result (λ r. HasProperty r.module.netlist (F.form form.now).property) }
-    ensures apart { IfOk result (λ r. IsApart r.module.netlist ir.now plan.now (F.form form.now) r.nets.items) }
-    ensures registers { IfOk result (λ r. HasRegisters r.module.netlist ir.now plan.now (F.form form.now).long) }
+    ensures { IfOk result (IsBuiltBy ir.now plan.now (F.form form.now) options.enable) }
 {
     let mut b = begun(alloc, ir, options.enable)?;
     let nets = Vec::new(alloc);
@@ -136,14 +114,7 @@ pub fn build<F: BufferForm>(
     form: &F,
 ) -> Result<Built, OutOfMemory>
     requires plan { IsPlanOf ir.now plan.now (record { enable = false; age = 0 }) }
-    ensures ports { IfOk result (λ r. HasPorts r.module.netlist ir.now false) }
-    ensures whole { IfOk result (λ r. IsWhole r.module.netlist r.module.netlist) }
-    ensures runs { IfOk result (λ r. RunsOn r.module.netlist) }
-    ensures circuit { IfOk result (λ r. IsModuleOf r.module.netlist ir.now plan.now (F.form form.now) r.nets.items) }
-    ensures reads { IfOk result (λ r. AreReadNets r.module.netlist ir.now plan.now r.reads.items) }
-    ensures computed { IfOk result (λ r. AreComputed r.module.netlist ir.now plan.now (F.form form.now) r.nets.items r.reads.items) }
-    ensures arrays { IfOk result (λ r. r.module.netlist.arrays ≡ shapes_of (F.form form.now).shapes plan.now plan.now.system.stencils.images) }
-    ensures property { IfOk result (λ r. HasProperty r.module.netlist (F.form form.now).property) }
+    ensures { IfOk result (IsBuiltBy ir.now plan.now (F.form form.now) false) }
 {
     let options = Options {
         enable: false,

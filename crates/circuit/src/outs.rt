@@ -1,13 +1,12 @@
 // The outputs of a circuit: for each when it is valid, and what it shows.
 
-ghost use Rattle.std.specs.Prelude.{◌≡◌, ℕ, ◌+◌, ◌<◌, IfOk, OnOk, IfSome, IfNone, length};
+ghost use Rattle.std.specs.Prelude.{◌≡◌, ℕ, ◌<◌, IfOk, IfSome, IfNone, length};
 ghost use Rattle.dk_base.specs.FrameSizes.{size_of};
-ghost use Rattle.net_build.specs.Registers.{register_bits};
-ghost use Rattle.edge_select.specs.FrameTests.{AddsTests, AreFrameTests};
+ghost use Rattle.edge_select.specs.FrameTests.{AreFrameTests};
 ghost use Rattle.buffer_plan.specs.Plans.{latency_of};
 ghost use Rattle.circuit.specs.Behaviour.{net_of};
-ghost use Rattle.circuit.specs.Ends.{AreOuts, output_in, AreValids, IsValidOf, IsOut, IsSharedBy, AreShared};
-ghost use Rattle.circuit.specs.Registers.{latencies, latency_bits, AddsLatency};
+ghost use Rattle.circuit.specs.Ends.{AreOuts, output_in, AreValids, IsValidOf, IsOut};
+ghost use Rattle.circuit.specs.Growing.{AddsOuts, AddsValid, HasOuts};
 
 use crate::valid::valid_from;
 use buffer_plan::Plan;
@@ -22,7 +21,8 @@ fn same_latency(plan: &Plan, k: usize) -> Option<usize>
     requires within { k < length plan.now.system.stencils.outputs }
     ensures earlier { IfSome result (λ j. j < k) }
     ensures same { IfSome result (λ j. latency_of plan.now j ≡ latency_of plan.now k) }
-    ensures none { IfNone result ((j : ℕ) → j < k → latency_of plan.now j ≡ latency_of plan.now k → ⊥) }
+    ensures none { IfNone result
+        ((j : ℕ) → j < k → latency_of plan.now j ≡ latency_of plan.now k → ⊥) }
 {
     let latency = plan.latency_of(k);
     for j in 0..k {
@@ -40,14 +40,10 @@ fn valid_behind(
     tests: &FrameTests,
     outs: &[(Net, Net)],
 ) -> Result<Net, OutOfMemory>
-    requires tests { AreFrameTests b.old (size_of tests.now.size) tests.now }
-    requires within { length outs.now < length plan.now.system.stencils.outputs }
+    requires next { HasOuts b.old plan.now tests.now outs.now }
     requires valids { AreValids b.old plan.now outs.now }
-    requires share { AreShared plan.now outs.now }
-    ensures adds { OnOk result (AddsTests b.new b.old tests.now tests.now) }
-    ensures bits { OnOk result (AddsLatency b.new b.old plan.now tests.now (length outs.now)) }
-    ensures valid { IfOk result (IsValidOf b.new plan.now (length outs.now)) }
-    ensures shared { IfOk result (IsSharedBy plan.now outs.now (length outs.now)) }
+    ensures { IfOk result (λ n. AddsValid b.new b.old plan.now tests.now outs.now
+        (IsValidOf b.new plan.now (length outs.now) n) n) }
 {
     match same_latency(plan, outs.len()) {
         Some(j) => Ok(outs[j].0),
@@ -77,15 +73,11 @@ fn out_behind(
     tests: &FrameTests,
     outs: &[(Net, Net)],
 ) -> Result<(Net, Net), OutOfMemory>
-    requires tests { AreFrameTests b.old (size_of tests.now.size) tests.now }
+    requires next { HasOuts b.old plan.now tests.now outs.now }
     requires count { length nets.now ≡ length plan.now.system.stencils.images }
-    requires within { length outs.now < length plan.now.system.stencils.outputs }
     requires outs { AreOuts b.old plan.now nets.now (length outs.now) outs.now }
-    requires share { AreShared plan.now outs.now }
-    ensures adds { OnOk result (AddsTests b.new b.old tests.now tests.now) }
-    ensures bits { OnOk result (AddsLatency b.new b.old plan.now tests.now (length outs.now)) }
-    ensures out { IfOk result (IsOut b.new plan.now nets.now (length outs.now)) }
-    ensures shared { IfOk result (λ out. IsSharedBy plan.now outs.now (length outs.now) out.0) }
+    ensures { IfOk result (λ out. AddsValid b.new b.old plan.now tests.now outs.now
+        (IsOut b.new plan.now nets.now (length outs.now) out) out.0) }
 {
     let valid = valid_behind(b, plan, tests, outs)?;
     let dout = dout_at(plan, nets, outs.len());
@@ -102,10 +94,7 @@ pub fn all_outs(
 ) -> Result<Vec<(Net, Net)>, OutOfMemory>
     requires tests { AreFrameTests b.old (size_of tests.now.size) tests.now }
     requires count { length nets.now ≡ length plan.now.system.stencils.images }
-    ensures adds { OnOk result (AddsTests b.new b.old tests.now tests.now) }
-    ensures bits { OnOk result (register_bits b.new ≡ register_bits b.old + latency_bits tests.now (latencies plan.now)) }
-    ensures outs { IfOk result (λ outs. AreOuts b.new plan.now nets.now (length plan.now.system.stencils.outputs) outs.items) }
-    ensures share { IfOk result (λ outs. AreShared plan.now outs.items) }
+    ensures { IfOk result (λ outs. AddsOuts b.new b.old plan.now nets.now tests.now outs.items) }
 {
     let mut outs = Vec::new(alloc);
     for _ in plan.outputs() {

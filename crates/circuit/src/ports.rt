@@ -1,12 +1,9 @@
 // The ports of a program's module.
 
-ghost use Rattle.std.specs.Prelude.{◌≡◌, [], IfOk, map};
+ghost use Rattle.std.specs.Prelude.{◌≡◌, IfOk, map};
 ghost use Rattle.dk_base.specs.Types.{width_of};
-ghost use Rattle.net_build.specs.Draft.{AllUpdated};
-ghost use Rattle.net_build.specs.Runs.{StillBut, NeverStops};
-ghost use Rattle.net_build.specs.Control.{IsControlled};
 ghost use Rattle.circuit.specs.Rounds.{type_at};
-ghost use Rattle.circuit.specs.Images.{ports_of};
+ghost use Rattle.circuit.specs.Whole.{HasOnlyPorts};
 
 use dk_base::OutOfMemory;
 use net_build::Builder;
@@ -27,7 +24,8 @@ fn din_bits(alloc: Global, ir: &Program) -> Result<Vec<u8>, OutOfMemory>
 // The width of each output.
 #[tactic(auto, using(crate::proofs::Typing::type_is))]
 fn dout_bits(alloc: Global, ir: &Program) -> Result<Vec<u8>, OutOfMemory>
-    ensures { IfOk result (λ bits. bits.items ≡ map (λ g. width_of (type_at ir.now g)) ir.now.outputs) }
+    ensures { IfOk result (λ bits. bits.items
+        ≡ map (λ g. width_of (type_at ir.now g)) ir.now.outputs) }
 {
     ir.law();
     let mut bits = Vec::new(alloc);
@@ -39,11 +37,7 @@ fn dout_bits(alloc: Global, ir: &Program) -> Result<Vec<u8>, OutOfMemory>
 
 // A builder with the ports of a program, and nothing else.
 pub fn begun(alloc: Global, ir: &Program, enable: bool) -> Result<Builder, OutOfMemory>
-    ensures ports { IfOk result (λ b. b ≡ ports_of ir.now enable) }
-    ensures updated { IfOk result AllUpdated }
-    ensures still { IfOk result (λ b. StillBut b [] []) }
-    ensures stops { IfOk result NeverStops }
-    ensures control { IfOk result (λ b. IsControlled b []) }
+    ensures { IfOk result (HasOnlyPorts ir.now enable) }
 {
     ir.law();
     let dins = din_bits(alloc, ir)?;

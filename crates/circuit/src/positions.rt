@@ -1,13 +1,13 @@
 // Tests of the pixels of images, by the module's frame tests.
 
-ghost use Rattle.std.specs.Prelude.{◌≡◌, ℕ, List, IfOk, OnOk};
-ghost use Rattle.wiring.specs.Netlist.{Netlist};
-ghost use Rattle.edge_select.specs.FrameTests.{AddsTests, AreFrameTests, IsApart, test_bits};
+ghost use Rattle.std.specs.Prelude.{IfOk};
+ghost use Rattle.edge_select.specs.FrameTests.{AreFrameTests};
+ghost use Rattle.edge_select.specs.MadeTests.{AreNoTests};
 ghost use Rattle.edge_select.specs.Steps.{LeadBy, LeadOn};
 ghost use Rattle.circuit.specs.Taps.{Keeps, size_in};
-ghost use Rattle.circuit.specs.Reads.{IsPixelTest};
 ghost use Rattle.circuit.specs.Leaves.{leaf_at};
-ghost use Rattle.circuit.specs.Registers.{AsksRead, AsksPart, AddsNeeded};
+ghost use Rattle.circuit.specs.Registers.{AsksRead, AsksPart};
+ghost use Rattle.circuit.specs.Growing.{MakesTest};
 
 use crate::reader::Reader;
 use buffer_plan::Plan;
@@ -19,9 +19,7 @@ use wiring::Net;
 
 // No frame tests, for the frames of a plan.
 pub fn no_tests(alloc: Global, plan: &Plan) -> FrameTests
-    ensures tests { (b : Netlist) → AreFrameTests b (size_in plan.now) result }
-    ensures apart { (copies : List ℕ) → IsApart copies result }
-    ensures none { test_bits result ≡ 0 }
+    ensures { AreNoTests (size_in plan.now) result }
 {
     plan.law();
     let size = FrameSize {
@@ -41,10 +39,9 @@ pub fn test_at(
 ) -> Result<Net, OutOfMemory>
     requires kept { Keeps reader.now.plan.now reader.now.image }
     requires tests { AreFrameTests b.old (size_in reader.now.plan.now) tests.old }
-    ensures adds { OnOk result (AddsTests b.new b.old tests.new tests.old) }
-    ensures tests { OnOk result (AreFrameTests b.new (size_in reader.now.plan.now) tests.new) }
-    ensures needed { OnOk result (AddsNeeded b.new b.old tests.new tests.old reader.now.plan.now (AsksRead reader.now.image (leaf_at read.g steps.now) read)) }
-    ensures test { IfOk result (IsPixelTest b.new reader.now.plan.now reader.now.image (LeadBy (size_in reader.now.plan.now) steps.now read.dx read.dy)) }
+    ensures { IfOk result (MakesTest b.new b.old tests.new tests.old reader.now.plan.now
+        reader.now.image (AsksRead reader.now.image (leaf_at read.g steps.now) read)
+        (LeadBy (size_in reader.now.plan.now) steps.now read.dx read.dy)) }
 {
     let delay = reader.plan.delay(reader.image);
     let net = tests.at(b, delay, steps, read.dx, read.dy)?;
@@ -61,10 +58,8 @@ fn test_leads(
 ) -> Result<Net, OutOfMemory>
     requires kept { Keeps plan.now f }
     requires tests { AreFrameTests b.old (size_in plan.now) tests.old }
-    ensures adds { OnOk result (AddsTests b.new b.old tests.new tests.old) }
-    ensures tests { OnOk result (AreFrameTests b.new (size_in plan.now) tests.new) }
-    ensures needed { OnOk result (AddsNeeded b.new b.old tests.new tests.old plan.now (AsksPart f steps.now)) }
-    ensures test { IfOk result (IsPixelTest b.new plan.now f (LeadOn (size_in plan.now) steps.now)) }
+    ensures { IfOk result (MakesTest b.new b.old tests.new tests.old plan.now f
+        (AsksPart f steps.now) (LeadOn (size_in plan.now) steps.now)) }
 {
     let delay = plan.delay(f);
     let net = tests.leads(b, delay, steps)?;
@@ -81,10 +76,8 @@ pub fn test_on(
 ) -> Result<Net, OutOfMemory>
     requires kept { Keeps plan.now f }
     requires tests { AreFrameTests b.old (size_in plan.now) tests.old }
-    ensures adds { OnOk result (AddsTests b.new b.old tests.new tests.old) }
-    ensures tests { OnOk result (AreFrameTests b.new (size_in plan.now) tests.new) }
-    ensures needed { OnOk result (AddsNeeded b.new b.old tests.new tests.old plan.now (AsksPart f steps.now)) }
-    ensures test { IfOk result (IsPixelTest b.new plan.now f (LeadOn (size_in plan.now) steps.now)) }
+    ensures { IfOk result (MakesTest b.new b.old tests.new tests.old plan.now f
+        (AsksPart f steps.now) (LeadOn (size_in plan.now) steps.now)) }
 {
     plan.law();
     match leading(plan.columns(), plan.rows(), steps) {

@@ -44,7 +44,8 @@ fn place_of_age(ages: &[u64], age: u64) -> usize
 pub fn tap_of(plan: &Plan, taps: &[Taps], read: LiveRead) -> Net
     requires read { Contains plan.now.system.stencils.reads read }
     requires there { place_in plan.now read.g < length taps.now }
-    requires one_each { length (taps_at plan.now taps.now read.g) ≡ length (ages_of plan.now read.g) }
+    requires one_each { length (taps_at plan.now taps.now read.g)
+        ≡ length (ages_of plan.now read.g) }
     ensures { IsTapOf plan.now taps.now read result }
 {
     plan.law();

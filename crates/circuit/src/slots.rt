@@ -1,12 +1,11 @@
 // Which word of which array holds a pixel.
 
 ghost use Rattle.std.specs.Prelude.{◌≡◌, ◌+◌, ◌-◌, ◌%◌, ◌<◌, ◌≤◌, ◌^◌, length};
-ghost use Rattle.dk_base.specs.declared.TheConstants.{MAX_BUFFER_BITS};
 ghost use Rattle.line_buffer.specs.Places.{Ascend, later, segment_place};
 ghost use Rattle.circuit.specs.Taps.{Keeps};
 ghost use Rattle.buffer_plan.specs.Plans.{depth_of};
 ghost use Rattle.circuit.specs.Splits.{lists_of};
-ghost use Rattle.circuit.specs.Forms.{first_array, chain_shapes_of, chain_places, block_shapes_of, block_places, ring_shapes_of, ring_places};
+ghost use Rattle.circuit.specs.Forms.{IsFirstArray, IsSlotOf, chain_shapes_of, chain_places, block_shapes_of, block_places, ring_shapes_of, ring_places};
 
 use crate::finer::split_of;
 use buffer_plan::Plan;
@@ -63,8 +62,7 @@ fn ring_arrays(plan: &Plan, image: u32) -> usize
 // The number of the first array of an image's chain: as many arrays as the kept images before it have.
 fn first_of_chain(plan: &Plan, image: u32) -> usize
     requires { Keeps plan.now image }
-    ensures first { result ≡ first_array chain_shapes_of plan.now image }
-    ensures few { result ≤ MAX_BUFFER_BITS }
+    ensures { IsFirstArray chain_shapes_of plan.now image result }
 {
     plan.law();
     let mut first = 0;
@@ -77,8 +75,7 @@ fn first_of_chain(plan: &Plan, image: u32) -> usize
 // The same of its chain over proposed ages.
 fn first_of_block(plan: &Plan, proposed: &[Vec<u64>], image: u32) -> usize
     requires { Keeps plan.now image }
-    ensures first { result ≡ first_array (block_shapes_of (lists_of proposed.now)) plan.now image }
-    ensures few { result ≤ MAX_BUFFER_BITS }
+    ensures { IsFirstArray (block_shapes_of (lists_of proposed.now)) plan.now image result }
 {
     plan.law();
     let mut first = 0;
@@ -91,8 +88,7 @@ fn first_of_block(plan: &Plan, proposed: &[Vec<u64>], image: u32) -> usize
 // The same of its ring.
 fn first_of_ring(plan: &Plan, image: u32) -> usize
     requires { Keeps plan.now image }
-    ensures first { result ≡ first_array ring_shapes_of plan.now image }
-    ensures few { result ≤ MAX_BUFFER_BITS }
+    ensures { IsFirstArray ring_shapes_of plan.now image result }
 {
     plan.law();
     let mut first = 0;
@@ -106,8 +102,7 @@ fn first_of_ring(plan: &Plan, image: u32) -> usize
 fn segment_slot(first: usize, low: u64, ages: &[u64], age: u64, clock: u64) -> Slot
     requires ascend { Ascend low ages.now }
     requires room { first + length ages.now < 2 ^ 64 }
-    ensures array { result.array ≡ (segment_place first low ages.now age clock).array }
-    ensures word { result.word ≡ (segment_place first low ages.now age clock).word }
+    ensures { IsSlotOf (segment_place first low ages.now age clock) result }
 {
     match ages.split_first() {
         None => Slot {
@@ -130,8 +125,7 @@ fn segment_slot(first: usize, low: u64, ages: &[u64], age: u64, clock: u64) -> S
 // The word of an age of an image in its chain.
 pub fn chain_slot(plan: &Plan, image: u32, age: u64, clock: u64) -> Slot
     requires { Keeps plan.now image }
-    ensures array { result.array ≡ (chain_places plan.now image age clock).array }
-    ensures word { result.word ≡ (chain_places plan.now image age clock).word }
+    ensures { IsSlotOf (chain_places plan.now image age clock) result }
 {
     plan.law();
     let first = first_of_chain(plan, image);
@@ -141,8 +135,7 @@ pub fn chain_slot(plan: &Plan, image: u32, age: u64, clock: u64) -> Slot
 // The word of an age of an image in its chain over proposed ages.
 pub fn block_slot(plan: &Plan, proposed: &[Vec<u64>], image: u32, age: u64, clock: u64) -> Slot
     requires { Keeps plan.now image }
-    ensures array { result.array ≡ (block_places (lists_of proposed.now) plan.now image age clock).array }
-    ensures word { result.word ≡ (block_places (lists_of proposed.now) plan.now image age clock).word }
+    ensures { IsSlotOf (block_places (lists_of proposed.now) plan.now image age clock) result }
 {
     plan.law();
     let first = first_of_block(plan, proposed, image);
@@ -159,8 +152,7 @@ pub fn block_slot(plan: &Plan, proposed: &[Vec<u64>], image: u32, age: u64, cloc
 pub fn ring_slot(plan: &Plan, image: u32, age: u64, clock: u64) -> Slot
     requires kept { Keeps plan.now image }
     requires some { 0 < depth_of plan.now image }
-    ensures array { result.array ≡ (ring_places plan.now image age clock).array }
-    ensures word { result.word ≡ (ring_places plan.now image age clock).word }
+    ensures { IsSlotOf (ring_places plan.now image age clock) result }
 {
     let array = first_of_ring(plan, image);
     let word = clock.saturating_sub(age) % plan.depth(image);

@@ -20,3 +20,4 @@ pub mod Differing
 pub mod Bits
 pub mod Everywhere
 pub mod Asked
+pub mod Failing

@@ -23,7 +23,7 @@ use Rattle.edge_select.specs.declared.counters.Counters.{Counters}
 use Rattle.edge_select.specs.declared.bands.Band.{Band}
 use Rattle.edge_select.specs.declared.frame_tests.Test.{Test}
 use Rattle.edge_select.specs.declared.frame_tests.FrameTests.{FrameTests}
-use Rattle.edge_select.specs.Bands.{in_band}
+use Rattle.edge_select.specs.Bands.{IsBand, in_band}
 use Rattle.edge_select.specs.Pixels.{HasPixel, Follows, IsBitOf}
 use Rattle.edge_select.specs.Counters.{TakesNext}
 
@@ -111,6 +111,13 @@ pub record Divides (side : ℕ) (b : Band) : Type 0 where
   pub outside : (x : ℕ) × (x < side) × (in_band side b x ≡ false)
   pub plain : b.outside ≡ false
   pub last : b.last + 1 < side
+
+-- A band that a register tests: one of the side's bands that divides the side.
+pub record IsTested (side : ℕ) (b : Band) : Type 0 where
+  -- it is a band of the side
+  pub band : IsBand side b
+  -- some coordinate is in it, and some is not
+  pub divides : Divides side b
 
 -- the test of columns starts with the frame, and divides the columns
 pub record DividesColumns (size : Size) (t : Test) : Type 0 where

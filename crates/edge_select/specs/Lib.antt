@@ -6,3 +6,4 @@ pub mod Bands
 pub mod Counters
 pub mod FrameTests
 pub mod Asked
+pub mod MadeTests

@@ -1,19 +1,13 @@
 // Intervals of columns or rows, moved on around the end of a side, and their tests.
 
-ghost use Rattle.std.specs.Prelude.{◌≡◌, ◌+◌, ◌-◌, ◌%◌, ◌<◌, ◌≤◌, ◌^◌, ◌==◌, not, ℕ, true, false, if◌then◌else◌, IsTrue, [], ◌∷◌, IfOk};
+ghost use Rattle.std.specs.Prelude.{◌≡◌, ◌+◌, ◌-◌, ◌<◌, ◌≤◌, ◌^◌, ◌==◌, ℕ, true, false, if◌then◌else◌, IsTrue, [], ◌∷◌};
 ghost use Rattle.dk_base.specs.declared.TheConstants.{MAX_SIDE};
-ghost use Rattle.dk_base.specs.Numbers.{bit_count};
-ghost use Rattle.wiring.specs.Netlist.{net_width};
-ghost use Rattle.wiring.specs.Sizes.{IsWidth};
 ghost use Rattle.wiring.specs.Snapshot.{net_value};
 ghost use Rattle.wiring.specs.Clock.{bit};
-ghost use Rattle.net_build.specs.Draft.{IsNet};
-ghost use Rattle.net_build.specs.Depth.{IsOver};
-ghost use Rattle.net_build.specs.Logic.{AddsLogic, Computes};
 ghost use Rattle.net_build.specs.Counters.{after};
-ghost use Rattle.frame_paths.specs.Moves.{IsIn, IsInterval};
-ghost use Rattle.edge_select.specs.Pixels.{IsBitOf};
-ghost use Rattle.edge_select.specs.Bands.{IsBand, in_interval, in_band};
+ghost use Rattle.frame_paths.specs.Moves.{IsInterval};
+ghost use Rattle.edge_select.specs.Bands.{IsBand, IsMoved, in_interval, in_band};
+ghost use Rattle.edge_select.specs.Logic.{AreCompared, HasOneBit, IsCoordinate, WiresFrom, WiresTest};
 
 use crate::frame_conditions::{test_net, within};
 use crate::pixel::width_for;
@@ -44,9 +38,7 @@ pub fn moved(interval: Interval, shift: u32, side: u32) -> Band
     requires part { interval.last + 1 < side + interval.first }
     requires shift { shift < side }
     requires most { side ≤ MAX_SIDE }
-    ensures band { IsBand side result }
-    ensures last { result.last + 1 < side }
-    ensures moved { (x : ℕ) → x < side → IsBitOf (IsIn interval x) (bit (in_band side result ((x + shift) % side))) }
+    ensures { IsMoved side interval shift result }
 {
     let first = interval.first + shift;
     let last = interval.last + shift;
@@ -76,7 +68,8 @@ pub fn before(band: Band, side: u32) -> Band
     requires band { IsBand side band }
     requires most { side ≤ MAX_SIDE }
     ensures band { IsBand side result }
-    ensures before { (x : ℕ) → x < side → in_band side result x ≡ in_band side band (after true (side - 1) x) }
+    ensures before { (x : ℕ) → x < side
+        → in_band side result x ≡ in_band side band (after true (side - 1) x) }
 {
     if band.first > 0 {
         return Band {
@@ -126,12 +119,8 @@ pub fn first_bit(band: Band) -> u64
 
 // The test that a coordinate is this one.
 pub fn equal_to(b: &mut Builder, x: Net, bits: u8, value: u32) -> Result<Net, OutOfMemory>
-    requires x { IsNet b.old x }
-    requires width { net_width b.old x ≡ bits }
-    requires bits { IsWidth bits }
-    requires fits { value < 2 ^ bits }
-    ensures logic { AddsLogic b.new b.old }
-    ensures test { IfOk result (Computes b.new b.old (x ∷ []) 1 (λ s. bit (net_value s x == value))) }
+    requires { AreCompared b.old x bits value }
+    ensures { WiresTest b.new b.old result (x ∷ []) (λ s. net_value s x == value) }
 {
     let same = number(bits, u64::from(value));
     let net = gate(b, Right::Binary(Operator::Equal, Atom::Net(x), same))?;
@@ -151,11 +140,9 @@ pub fn interval_of(band: Band) -> Band
 
 // The test of a band from that of its interval.
 pub fn turned(b: &mut Builder, test: Net, outside: bool) -> Result<Net, OutOfMemory>
-    requires test { IsNet b.old test }
-    requires width { net_width b.old test ≡ 1 }
-    ensures logic { AddsLogic b.new b.old }
-    ensures test { IfOk result (Computes b.new b.old (test ∷ []) 1 (λ s. if outside then 1 - net_value s test else net_value s test)) }
-    ensures depth { IfOk result (IsOver b.new b.old 1 (test ∷ [])) }
+    requires { HasOneBit b.old test }
+    ensures { WiresFrom b.new b.old result 1 (test ∷ []) 1
+        (λ s. if outside then 1 - net_value s test else net_value s test) }
 {
     if outside {
         let net = negated(b, test)?;
@@ -166,11 +153,8 @@ pub fn turned(b: &mut Builder, test: Net, outside: bool) -> Result<Net, OutOfMem
 
 // The test that passes where another one does not.
 fn negated(b: &mut Builder, test: Net) -> Result<Net, OutOfMemory>
-    requires test { IsNet b.old test }
-    requires width { net_width b.old test ≡ 1 }
-    ensures logic { AddsLogic b.new b.old }
-    ensures test { IfOk result (Computes b.new b.old (test ∷ []) 1 (λ s. 1 - net_value s test)) }
-    ensures depth { IfOk result (IsOver b.new b.old 1 (test ∷ [])) }
+    requires { HasOneBit b.old test }
+    ensures { WiresFrom b.new b.old result 1 (test ∷ []) 1 (λ s. 1 - net_value s test) }
 {
     let net = gate(b, Right::Not(Atom::Net(test)))?;
     Ok(net)
@@ -178,13 +162,10 @@ fn negated(b: &mut Builder, test: Net) -> Result<Net, OutOfMemory>
 
 // The test that a coordinate is in the interval. Equality has no carry, so it tests an interval of one coordinate.
 fn interval_test(b: &mut Builder, x: Net, side: u32, band: Band) -> Result<Net, OutOfMemory>
-    requires some { 1 ≤ side }
-    requires most { side ≤ MAX_SIDE }
-    requires x { IsNet b.old x }
-    requires width { net_width b.old x ≡ bit_count (side - 1) }
+    requires coordinate { IsCoordinate b.old side x }
     requires band { IsBand side band }
-    ensures logic { AddsLogic b.new b.old }
-    ensures test { IfOk result (Computes b.new b.old (x ∷ []) 1 (λ s. bit (in_interval side band.first band.last (net_value s x)))) }
+    ensures { WiresTest b.new b.old result (x ∷ [])
+        (λ s. in_interval side band.first band.last (net_value s x)) }
 {
     if band.first == band.last {
         let net = equal_to(b, x, width_for(side), band.first)?;
@@ -201,13 +182,9 @@ fn interval_test(b: &mut Builder, x: Net, side: u32, band: Band) -> Result<Net, 
 
 // The test that a coordinate is in the band.
 pub fn band_test(b: &mut Builder, x: Net, side: u32, band: Band) -> Result<Net, OutOfMemory>
-    requires some { 1 ≤ side }
-    requires most { side ≤ MAX_SIDE }
-    requires x { IsNet b.old x }
-    requires width { net_width b.old x ≡ bit_count (side - 1) }
+    requires coordinate { IsCoordinate b.old side x }
     requires band { IsBand side band }
-    ensures logic { AddsLogic b.new b.old }
-    ensures test { IfOk result (Computes b.new b.old (x ∷ []) 1 (λ s. bit (in_band side band (net_value s x)))) }
+    ensures { WiresTest b.new b.old result (x ∷ []) (λ s. in_band side band (net_value s x)) }
 {
     let net = interval_test(b, x, side, band)?;
     if !band.outside {

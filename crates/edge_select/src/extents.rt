@@ -4,10 +4,8 @@ ghost use Rattle.std.specs.Prelude.{◌≡◌, ◌+◌, ◌≤◌, ◌↔◌, Is
 ghost use Rattle.dk_base.specs.Frames.{IsFrame};
 ghost use Rattle.dk_base.specs.FrameSizes.{size_of};
 ghost use Rattle.frame_paths.specs.Moves.{IsInterval};
-ghost use Rattle.edge_select.specs.declared.extents.Extent.TheVariants.{Never, Always};
 ghost use Rattle.edge_select.specs.Steps.{LeadBy, LeadOn};
-ghost use Rattle.edge_select.specs.Passes.{IsRectangle, Passes};
-ghost use Rattle.edge_select.specs.Pixels.{AllPass, NonePass};
+ghost use Rattle.edge_select.specs.Passes.{IsExtent, IsRectangle, Passes};
 
 use crate::paths::{Rectangle, leading_pixels, passing_pixels};
 use crate::step::Step;
@@ -33,8 +31,7 @@ pub fn is_whole(interval: Interval, side: u32) -> bool
 // How many pixels of a frame are in the rectangle, which has one.
 fn extent_of(rectangle: Rectangle, size: FrameSize) -> Extent
     requires { IsRectangle (size_of size) rectangle }
-    ensures always { (result ≡ Always) ↔ AllPass size.width size.height (Passes rectangle) }
-    ensures never { (result ≡ Never) ↔ NonePass size.width size.height (Passes rectangle) }
+    ensures { IsExtent size.width size.height (Passes rectangle) result }
 {
     if !is_whole(rectangle.across, size.width) {
         return Extent::Sometimes;
@@ -48,8 +45,8 @@ fn extent_of(rectangle: Rectangle, size: FrameSize) -> Extent
 /// How many pixels of a frame of this size, in pixels, pass the test `at` of these steps.
 pub fn passing(width: u32, height: u32, steps: &[Step], dx: i32, dy: i32) -> Extent
     requires { IsFrame width height }
-    ensures always { (result ≡ Always) ↔ AllPass width height (LeadBy (record { width = width; height = height }) steps.now dx dy) }
-    ensures never { (result ≡ Never) ↔ NonePass width height (LeadBy (record { width = width; height = height }) steps.now dx dy) }
+    ensures { IsExtent width height
+        (LeadBy (record { width = width; height = height }) steps.now dx dy) result }
 {
     let size = FrameSize { width, height };
     match passing_pixels(steps, size, dx, dy) {
@@ -61,8 +58,8 @@ pub fn passing(width: u32, height: u32, steps: &[Step], dx: i32, dy: i32) -> Ext
 /// How many pixels of a frame of this size, in pixels, pass the test `leads` of these steps.
 pub fn leading(width: u32, height: u32, steps: &[Step]) -> Extent
     requires { IsFrame width height }
-    ensures always { (result ≡ Always) ↔ AllPass width height (LeadOn (record { width = width; height = height }) steps.now) }
-    ensures never { (result ≡ Never) ↔ NonePass width height (LeadOn (record { width = width; height = height }) steps.now) }
+    ensures { IsExtent width height
+        (LeadOn (record { width = width; height = height }) steps.now) result }
 {
     let size = FrameSize { width, height };
     match leading_pixels(steps, size) {

@@ -1,22 +1,16 @@
 // Tests of where a pixel's neighbours are.
 
-ghost use Rattle.std.specs.Prelude.{◌≡◌, ◌+◌, ◌-◌, ◌<◌, ◌≤◌, ◌^◌, ◌==◌, not, ℤ, pos, ◌+ℤ◌, IsTrue, true, [], ◌∷◌, ◌++◌, Some, IfOk, IfSome};
+ghost use Rattle.std.specs.Prelude.{◌<◌, ◌≤◌, ◌^◌, ◌==◌, not, ℤ, pos, ◌+ℤ◌, IsTrue, true, [], ◌∷◌, ◌++◌, Some, IfSome};
 ghost use Rattle.std.specs.Option.{option_to_list};
-ghost use Rattle.dk_base.specs.declared.TheConstants.{MAX_SIDE};
 ghost use Rattle.dk_base.specs.Frames.{in_frame};
 ghost use Rattle.dk_base.specs.FrameSizes.{size_of};
-ghost use Rattle.dk_base.specs.Numbers.{bit_count};
-ghost use Rattle.wiring.specs.Netlist.{net_width};
-ghost use Rattle.wiring.specs.Sizes.{IsWidth};
 ghost use Rattle.wiring.specs.Snapshot.{net_value};
 ghost use Rattle.wiring.specs.Clock.{bit};
-ghost use Rattle.net_build.specs.Draft.{IsNet};
 ghost use Rattle.edge_select.specs.Steps.{LeadBy, LeadOn};
 ghost use Rattle.frame_paths.specs.Moves.{IsInterval};
 ghost use Rattle.edge_select.specs.Passes.{IsRectangle, PassesOn, is_in_rectangle};
 ghost use Rattle.net_build.specs.Depth.{IsOver};
-ghost use Rattle.net_build.specs.Logic.{AddsLogic, Computes};
-ghost use Rattle.edge_select.specs.Logic.{Tests, IsBit, IsBoth, IsTestNet, is_up_to, is_from, is_within};
+ghost use Rattle.edge_select.specs.Logic.{AreCompared, HoldsSide, IsCoordinate, Tests, IsBit, IsBoth, IsTestNet, Wires, WiresFrom, WiresOver, WiresTest, is_up_to, is_from, is_within};
 ghost use Rattle.edge_select.specs.Pixels.{HasPixel, IsTest};
 
 use crate::paths::{Rectangle, leading_pixels, passing_pixels};
@@ -30,12 +24,8 @@ use wiring::{Atom, Net, Operator, Right};
 
 // The test that a coordinate is not this one. Equality has no carry, so such a test is faster than an order.
 fn apart_from(b: &mut Builder, x: Net, bits: u8, value: u32) -> Result<Net, OutOfMemory>
-    requires x { IsNet b.old x }
-    requires width { net_width b.old x ≡ bits }
-    requires bits { IsWidth bits }
-    requires fits { value < 2 ^ bits }
-    ensures logic { AddsLogic b.new b.old }
-    ensures test { IfOk result (Computes b.new b.old (x ∷ []) 1 (λ s. bit (not (net_value s x == value)))) }
+    requires { AreCompared b.old x bits value }
+    ensures { WiresTest b.new b.old result (x ∷ []) (λ s. not (net_value s x == value)) }
 {
     let same = gate(
         b,
@@ -60,14 +50,10 @@ fn at_least(
     first: u32,
     side: u32,
 ) -> Result<Option<Net>, OutOfMemory>
-    requires x { IsNet b.old x }
-    requires width { net_width b.old x ≡ bits }
-    requires bits { IsWidth bits }
+    requires x { HoldsSide b.old side bits x }
     requires first { first ≤ 2 ^ bits }
-    requires some { 1 ≤ side }
-    requires side { side - 1 < 2 ^ bits }
-    ensures logic { AddsLogic b.new b.old }
-    ensures test { IfOk result (Tests b.new b.old (x ∷ []) (λ s. is_from side first (net_value s x))) }
+    ensures { Wires b.new b.old result
+        (Tests b.new b.old (x ∷ []) (λ s. is_from side first (net_value s x))) }
 {
     if first == 0 {
         return Ok(None);
@@ -94,13 +80,10 @@ fn at_most(
     last: u32,
     side: u32,
 ) -> Result<Option<Net>, OutOfMemory>
-    requires x { IsNet b.old x }
-    requires width { net_width b.old x ≡ bits }
-    requires bits { IsWidth bits }
+    requires x { HoldsSide b.old side bits x }
     requires last { last < side }
-    requires side { side - 1 < 2 ^ bits }
-    ensures logic { AddsLogic b.new b.old }
-    ensures test { IfOk result (Tests b.new b.old (x ∷ []) (λ s. is_up_to side last (net_value s x))) }
+    ensures { Wires b.new b.old result
+        (Tests b.new b.old (x ∷ []) (λ s. is_up_to side last (net_value s x))) }
 {
     let end = last + 1;
     if end >= side {
@@ -130,9 +113,8 @@ pub fn both(
 ) -> Result<Option<Net>, OutOfMemory>
     requires one { IsBit b.old one }
     requires other { IsBit b.old other }
-    ensures logic { AddsLogic b.new b.old }
-    ensures test { IfOk result (IsBoth b.new b.old one other) }
-    ensures depth { IfOk result (λ test. IfSome test (IsOver b.new b.old 1 (option_to_list one ++ option_to_list other))) }
+    ensures { WiresOver b.new b.old result (IsBoth b.new b.old one other)
+        (λ test. IfSome test (IsOver b.new b.old 1 (option_to_list one ++ option_to_list other))) }
 {
     match one {
         None => Ok(other),
@@ -156,13 +138,10 @@ pub fn within(
     side: u32,
     interval: Interval,
 ) -> Result<Option<Net>, OutOfMemory>
-    requires some { 1 ≤ side }
-    requires most { side ≤ MAX_SIDE }
-    requires x { IsNet b.old x }
-    requires width { net_width b.old x ≡ bit_count (side - 1) }
+    requires coordinate { IsCoordinate b.old side x }
     requires interval { IsInterval side interval }
-    ensures logic { AddsLogic b.new b.old }
-    ensures test { IfOk result (Tests b.new b.old (x ∷ []) (λ s. is_within side interval.first interval.last (net_value s x))) }
+    ensures { Wires b.new b.old result (Tests b.new b.old (x ∷ [])
+        (λ s. is_within side interval.first interval.last (net_value s x))) }
 {
     let bits = width_for(side);
     let low = at_least(b, x, bits, interval.first, side)?;
@@ -173,9 +152,7 @@ pub fn within(
 
 /// The test that passes always, or never.
 pub fn constant_test(b: &mut Builder, passes: bool) -> Result<Net, OutOfMemory>
-    ensures logic { AddsLogic b.new b.old }
-    ensures test { IfOk result (Computes b.new b.old [] 1 (λ s. bit passes)) }
-    ensures depth { IfOk result (IsOver b.new b.old 0 []) }
+    ensures { WiresFrom b.new b.old result 0 [] 1 (λ s. bit passes) }
 {
     let net = gate(b, Right::Copy(number(1, u64::from(passes))))?;
     Ok(net)
@@ -183,9 +160,8 @@ pub fn constant_test(b: &mut Builder, passes: bool) -> Result<Net, OutOfMemory>
 
 // The net of a test.
 pub fn test_net(b: &mut Builder, test: Option<Net>) -> Result<Net, OutOfMemory>
-    ensures logic { AddsLogic b.new b.old }
-    ensures net { IfOk result (IsTestNet b.new b.old test) }
-    ensures depth { IfOk result (IsOver b.new b.old 0 (option_to_list test)) }
+    ensures { WiresOver b.new b.old result (IsTestNet b.new b.old test)
+        (IsOver b.new b.old 0 (option_to_list test)) }
 {
     match test {
         Some(net) => Ok(net),
@@ -200,8 +176,8 @@ pub fn test_net(b: &mut Builder, test: Option<Net>) -> Result<Net, OutOfMemory>
 fn rectangle_test(b: &mut Builder, pixel: &Pixel, rectangle: Rectangle) -> Result<Net, OutOfMemory>
     requires pixel { HasPixel b.old pixel.now }
     requires rectangle { IsRectangle (size_of pixel.now.size) rectangle }
-    ensures logic { AddsLogic b.new b.old }
-    ensures test { IfOk result (Computes b.new b.old (pixel.now.column ∷ (pixel.now.row ∷ [])) 1 (λ s. bit (is_in_rectangle pixel.now rectangle s))) }
+    ensures { WiresTest b.new b.old result (pixel.now.column ∷ (pixel.now.row ∷ []))
+        (λ s. is_in_rectangle pixel.now rectangle s) }
 {
     let across = within(b, pixel.column, pixel.size.width, rectangle.across)?;
     let down = within(b, pixel.row, pixel.size.height, rectangle.down)?;
@@ -218,8 +194,7 @@ fn passing_test(
 ) -> Result<Net, OutOfMemory>
     requires pixel { HasPixel b.old pixel.now }
     requires rectangle { IfSome rectangle (λ r. IsRectangle (size_of pixel.now.size) r) }
-    ensures logic { AddsLogic b.new b.old }
-    ensures test { IfOk result (IsTest b.new b.old pixel.now (PassesOn rectangle)) }
+    ensures { Wires b.new b.old result (IsTest b.new b.old pixel.now (PassesOn rectangle)) }
 {
     match rectangle {
         Some(rectangle) => {
@@ -236,8 +211,8 @@ fn passing_test(
 /// The test that a pixel passes exactly where the steps lead from it somewhere, each step that is not clamped to a point in the frame.
 pub fn leads(b: &mut Builder, pixel: &Pixel, steps: &[Step]) -> Result<Net, OutOfMemory>
     requires { HasPixel b.old pixel.now }
-    ensures logic { AddsLogic b.new b.old }
-    ensures test { IfOk result (IsTest b.new b.old pixel.now (LeadOn (size_of pixel.now.size) steps.now)) }
+    ensures { Wires b.new b.old result
+        (IsTest b.new b.old pixel.now (LeadOn (size_of pixel.now.size) steps.now)) }
 {
     let rectangle = leading_pixels(steps, pixel.size);
     let net = passing_test(b, pixel, rectangle)?;
@@ -253,8 +228,8 @@ pub fn at(
     dy: i32,
 ) -> Result<Net, OutOfMemory>
     requires { HasPixel b.old pixel.now }
-    ensures logic { AddsLogic b.new b.old }
-    ensures test { IfOk result (IsTest b.new b.old pixel.now (LeadBy (size_of pixel.now.size) steps.now dx dy)) }
+    ensures { Wires b.new b.old result
+        (IsTest b.new b.old pixel.now (LeadBy (size_of pixel.now.size) steps.now dx dy)) }
 {
     let rectangle = passing_pixels(steps, pixel.size, dx, dy);
     let net = passing_test(b, pixel, rectangle)?;
@@ -264,8 +239,8 @@ pub fn at(
 /// The test that a pixel passes exactly where the point that is `dx` columns to the right and `dy` rows down is in the frame.
 pub fn inside(b: &mut Builder, pixel: &Pixel, dx: i32, dy: i32) -> Result<Net, OutOfMemory>
     requires { HasPixel b.old pixel.now }
-    ensures logic { AddsLogic b.new b.old }
-    ensures test { IfOk result (IsTest b.new b.old pixel.now (λ x y. IsTrue (in_frame (size_of pixel.now.size) (pos x +ℤ dx) (pos y +ℤ dy)))) }
+    ensures { Wires b.new b.old result (IsTest b.new b.old pixel.now
+        (λ x y. IsTrue (in_frame (size_of pixel.now.size) (pos x +ℤ dx) (pos y +ℤ dy)))) }
 {
     let edge = Edge::Zero;
     let steps = [Step { edge, dx, dy }];

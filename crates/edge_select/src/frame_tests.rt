@@ -1,23 +1,15 @@
 // Tests of the pixels of a module, for each delay: one pair of counters, and registers of one bit.
 
-ghost use Rattle.std.specs.Prelude.{ℕ, ◌≡◌, ◌<◌, ◌+◌, ◌-◌, ◌==◌, true, if◌then◌else◌, IsTrue, List, Contains, Some, IfOk, IfSome, IfNone, OnOk};
+ghost use Rattle.std.specs.Prelude.{◌≡◌, ◌<◌, ◌-◌, ◌==◌, true, IsTrue, Contains, IfOk, IfSome, IfNone, OnOk};
 ghost use Rattle.dk_base.specs.FrameSizes.{size_of};
-ghost use Rattle.wiring.specs.Netlist.{Netlist, net_width};
-ghost use Rattle.wiring.specs.Clock.{bit};
-ghost use Rattle.wiring.specs.declared.netlist.Holder.TheVariants.{OfNet};
-ghost use Rattle.net_build.specs.Draft.{IsNet};
-ghost use Rattle.net_build.specs.Control.{is_control, IsControl};
-ghost use Rattle.net_build.specs.Depth.{IsWithin};
-ghost use Rattle.net_build.specs.Logic.{AddsLogic};
-ghost use Rattle.net_build.specs.Registers.{register_bits};
-ghost use Rattle.net_build.specs.Counters.{after, Starts};
-ghost use Rattle.frame_paths.specs.Moves.{IsIn, IsInterval};
+ghost use Rattle.net_build.specs.Counters.{after};
+ghost use Rattle.frame_paths.specs.Moves.{IsInterval};
 ghost use Rattle.edge_select.specs.Steps.{LeadBy, LeadOn};
-ghost use Rattle.edge_select.specs.Bands.{IsBand, in_band};
-ghost use Rattle.edge_select.specs.Pixels.{AllPass};
+ghost use Rattle.edge_select.specs.Bands.{IsBand, is_new_row_in, is_next_in};
+ghost use Rattle.edge_select.specs.Logic.{Wires};
+ghost use Rattle.edge_select.specs.MadeTests.{AddsBit, AreNoTests, HasColumnTest, HasCounters, HasRowTest, MakesAcross, MakesDown, MakesFrameTest, MakesStart};
 ghost use Rattle.edge_select.specs.Passes.{IsRectangle, Passes, PassesOn};
-ghost use Rattle.edge_select.specs.FrameTests.{takes, AddsBeside, AddsTests, AreCounters, IsColumnTest, IsRowTest, AreFrameTests, IsFrameTest, IsPartTest, IsApart, IsTestOf, Divides, HasNone, counter_bits, CountsTests, test_bits, start_bits};
-ghost use Rattle.edge_select.specs.Asked.{SeparatesColumns, SeparatesRows, AddsOnly, AddsFor};
+ghost use Rattle.edge_select.specs.FrameTests.{AreCounters, IsColumnTest, IsRowTest, AreFrameTests, IsTested, IsTestOf, HasNone};
 
 use crate::bands::{
     Band, band_test, before, equal_to, first_bit, interval_of, moved, one_before, same_band, turned,
@@ -57,8 +49,8 @@ pub struct FrameTests {
 fn next_column_test(b: &mut Builder, k: &Counters, band: Band) -> Result<Net, OutOfMemory>
     requires counters { AreCounters b.old (size_of k.now.pixel.size) k.now }
     requires band { IsBand k.now.pixel.size.width band }
-    ensures logic { AddsLogic b.new b.old }
-    ensures test { IfOk result (IsTestOf b.new b.old k.now.pixel.size.width (λ x. in_band k.now.pixel.size.width band (after true (k.now.pixel.size.width - 1) x)) k.now.pixel.column) }
+    ensures { Wires b.new b.old result (IsTestOf b.new b.old k.now.pixel.size.width
+        (is_next_in k.now.pixel.size.width band) k.now.pixel.column) }
 {
     let earlier = before(band, k.pixel.size.width);
     let net = band_test(b, k.pixel.column, k.pixel.size.width, earlier)?;
@@ -69,8 +61,8 @@ fn next_column_test(b: &mut Builder, k: &Counters, band: Band) -> Result<Net, Ou
 fn starts(b: &mut Builder, k: &Counters, start: u32) -> Result<Net, OutOfMemory>
     requires counters { AreCounters b.old (size_of k.now.pixel.size) k.now }
     requires start { start < k.now.pixel.size.width }
-    ensures logic { AddsLogic b.new b.old }
-    ensures test { IfOk result (IsTestOf b.new b.old k.now.pixel.size.width (λ x. after true (k.now.pixel.size.width - 1) x == start) k.now.pixel.column) }
+    ensures { Wires b.new b.old result (IsTestOf b.new b.old k.now.pixel.size.width
+        (λ x. after true (k.now.pixel.size.width - 1) x == start) k.now.pixel.column) }
 {
     let bits = width_for(k.pixel.size.width);
     let earlier = one_before(start, k.pixel.size.width);
@@ -82,8 +74,8 @@ fn starts(b: &mut Builder, k: &Counters, start: u32) -> Result<Net, OutOfMemory>
 fn next_row_test(b: &mut Builder, k: &Counters, start: u32, band: Band) -> Result<Net, OutOfMemory>
     requires counters { AreCounters b.old (size_of k.now.pixel.size) k.now }
     requires band { IsBand k.now.pixel.size.height band }
-    ensures logic { AddsLogic b.new b.old }
-    ensures test { IfOk result (IsTestOf b.new b.old k.now.pixel.size.height (λ y. in_band k.now.pixel.size.height band (if start == 0 then after true (k.now.pixel.size.height - 1) y else y)) k.now.pixel.row) }
+    ensures { Wires b.new b.old result (IsTestOf b.new b.old k.now.pixel.size.height
+        (is_new_row_in k.now.pixel.size.height start band) k.now.pixel.row) }
 {
     if start == 0 {
         let earlier = before(band, k.pixel.size.height);
@@ -98,9 +90,9 @@ fn next_row_test(b: &mut Builder, k: &Counters, start: u32, band: Band) -> Resul
 fn column_register(b: &mut Builder, k: &Counters, band: Band) -> Result<Net, OutOfMemory>
     requires counters { AreCounters b.old (size_of k.now.pixel.size) k.now }
     requires band { IsBand k.now.pixel.size.width band }
-    ensures adds { OnOk result (AddsBeside b.new b.old (Some k.now) (Some k.now)) }
-    ensures bits { OnOk result (register_bits b.new ≡ register_bits b.old + 1) }
-    ensures test { IfOk result (λ n. IsColumnTest b.new (size_of k.now.pixel.size) (record { start = 0; band = band; net = n })) }
+    ensures register { OnOk result (AddsBit b.new b.old k.now) }
+    ensures test { IfOk result (λ n. IsColumnTest b.new (size_of k.now.pixel.size)
+        (record { start = 0; band = band; net = n })) }
 {
     let test = next_column_test(b, k, band)?;
     let net = register_of(b, None, first_bit(band), test)?;
@@ -112,9 +104,9 @@ fn row_register(b: &mut Builder, k: &Counters, start: u32, band: Band) -> Result
     requires counters { AreCounters b.old (size_of k.now.pixel.size) k.now }
     requires start { start < k.now.pixel.size.width }
     requires band { IsBand k.now.pixel.size.height band }
-    ensures adds { OnOk result (AddsBeside b.new b.old (Some k.now) (Some k.now)) }
-    ensures bits { OnOk result (register_bits b.new ≡ register_bits b.old + 1) }
-    ensures test { IfOk result (λ n. IsRowTest b.new (size_of k.now.pixel.size) (record { start = start; band = band; net = n })) }
+    ensures register { OnOk result (AddsBit b.new b.old k.now) }
+    ensures test { IfOk result (λ n. IsRowTest b.new (size_of k.now.pixel.size)
+        (record { start = start; band = band; net = n })) }
 {
     let begins = starts(b, k, start)?;
     let test = next_row_test(b, k, start, band)?;
@@ -135,7 +127,8 @@ fn is_same_test(test: Test, start: u32, band: Band) -> bool
 
 // The register of a test that is there.
 fn test_in(tests: &[Test], start: u32, band: Band) -> Option<Net>
-    ensures found { IfSome result (λ n. Contains tests.now (record { start = start; band = band; net = n })) }
+    ensures found { IfSome result (λ n. Contains tests.now
+        (record { start = start; band = band; net = n })) }
     ensures none { IfNone result (HasNone tests.now start band) }
 {
     for k in 0..tests.len() {
@@ -150,9 +143,7 @@ fn test_in(tests: &[Test], start: u32, band: Band) -> Option<Net>
 // The counters, which are made where they are first needed.
 fn counters_of(b: &mut Builder, tests: &FrameTests) -> Result<Counters, OutOfMemory>
     requires tests { AreFrameTests b.old (size_of tests.now.size) tests.now }
-    ensures adds { IfOk result (λ k. AddsBeside b.new b.old (Some k) tests.now.counters) }
-    ensures counters { IfOk result (AreCounters b.new (size_of tests.now.size)) }
-    ensures bits { IfOk result (λ k. register_bits b.new + counter_bits tests.now.counters ≡ register_bits b.old + counter_bits (Some k)) }
+    ensures { IfOk result (HasCounters b.new b.old (size_of tests.now.size) tests.now.counters) }
 {
     match tests.counters {
         Some(counters) => Ok(counters),
@@ -167,13 +158,9 @@ fn counters_of(b: &mut Builder, tests: &FrameTests) -> Result<Counters, OutOfMem
 // The register that tests the column.
 fn column_test(b: &mut Builder, tests: &mut FrameTests, band: Band) -> Result<Net, OutOfMemory>
     requires tests { AreFrameTests b.old (size_of tests.old.size) tests.old }
-    requires band { IsBand tests.old.size.width band }
-    requires divides { Divides tests.old.size.width band }
-    ensures adds { OnOk result (AddsTests b.new b.old tests.new tests.old) }
-    ensures registers { OnOk result (CountsTests b.new b.old tests.new tests.old) }
-    ensures only { OnOk result (AddsOnly tests.new tests.old (λ t. t.band ≡ band) (λ t. ⊥)) }
-    ensures tests { OnOk result (AreFrameTests b.new (size_of tests.old.size) tests.new) }
-    ensures test { IfOk result (λ n. IsColumnTest b.new (size_of tests.old.size) (record { start = 0; band = band; net = n })) }
+    requires band { IsTested tests.old.size.width band }
+    ensures { IfOk result
+        (HasColumnTest b.new b.old (size_of tests.old.size) band tests.new tests.old) }
 {
     if let Some(net) = test_in(&tests.columns, 0, band) {
         return Ok(net);
@@ -198,13 +185,9 @@ fn row_test(
 ) -> Result<Net, OutOfMemory>
     requires tests { AreFrameTests b.old (size_of tests.old.size) tests.old }
     requires start { start < tests.old.size.width }
-    requires band { IsBand tests.old.size.height band }
-    requires divides { Divides tests.old.size.height band }
-    ensures adds { OnOk result (AddsTests b.new b.old tests.new tests.old) }
-    ensures registers { OnOk result (CountsTests b.new b.old tests.new tests.old) }
-    ensures only { OnOk result (AddsOnly tests.new tests.old (λ t. ⊥) (λ t. (t.start ≡ start) × (t.band ≡ band))) }
-    ensures tests { OnOk result (AreFrameTests b.new (size_of tests.old.size) tests.new) }
-    ensures test { IfOk result (λ n. IsRowTest b.new (size_of tests.old.size) (record { start = start; band = band; net = n })) }
+    requires band { IsTested tests.old.size.height band }
+    ensures { IfOk result
+        (HasRowTest b.new b.old (size_of tests.old.size) start band tests.new tests.old) }
 {
     if let Some(net) = test_in(&tests.rows, start, band) {
         return Ok(net);
@@ -225,13 +208,8 @@ fn across_test(
 ) -> Result<Option<Net>, OutOfMemory>
     requires tests { AreFrameTests b.old (size_of tests.old.size) tests.old }
     requires interval { IsInterval tests.old.size.width interval }
-    ensures adds { OnOk result (AddsTests b.new b.old tests.new tests.old) }
-    ensures registers { OnOk result (CountsTests b.new b.old tests.new tests.old) }
-    ensures only { OnOk result (AddsOnly tests.new tests.old (SeparatesColumns (size_of tests.old.size) delay (IsIn interval)) (λ t. ⊥)) }
-    ensures none { OnOk result (((x : ℕ) → x < tests.old.size.width → IsIn interval x) → tests.new ≡ tests.old) }
-    ensures tests { OnOk result (AreFrameTests b.new (size_of tests.old.size) tests.new) }
-    ensures test { IfOk result (IsPartTest b.new (size_of tests.old.size) delay (λ x y. IsIn interval x)) }
-    ensures depth { IfOk result (λ net. IfSome net (λ n. IsWithin b.new (is_control b.new.enable) 1 (OfNet n))) }
+    ensures { IfOk result
+        (MakesAcross b.new b.old (size_of tests.old.size) delay interval tests.new tests.old) }
 {
     let side = tests.size.width;
     if is_whole(interval, side) {
@@ -253,13 +231,8 @@ fn down_test(
 ) -> Result<Option<Net>, OutOfMemory>
     requires tests { AreFrameTests b.old (size_of tests.old.size) tests.old }
     requires interval { IsInterval tests.old.size.height interval }
-    ensures adds { OnOk result (AddsTests b.new b.old tests.new tests.old) }
-    ensures registers { OnOk result (CountsTests b.new b.old tests.new tests.old) }
-    ensures only { OnOk result (AddsOnly tests.new tests.old (λ t. ⊥) (SeparatesRows (size_of tests.old.size) delay (IsIn interval))) }
-    ensures none { OnOk result (((y : ℕ) → y < tests.old.size.height → IsIn interval y) → tests.new ≡ tests.old) }
-    ensures tests { OnOk result (AreFrameTests b.new (size_of tests.old.size) tests.new) }
-    ensures test { IfOk result (IsPartTest b.new (size_of tests.old.size) delay (λ x y. IsIn interval y)) }
-    ensures depth { IfOk result (λ net. IfSome net (λ n. IsWithin b.new (is_control b.new.enable) 1 (OfNet n))) }
+    ensures { IfOk result
+        (MakesDown b.new b.old (size_of tests.old.size) delay interval tests.new tests.old) }
 {
     let size = tests.size;
     if is_whole(interval, size.height) {
@@ -283,13 +256,8 @@ fn rectangle_of(
 ) -> Result<Net, OutOfMemory>
     requires tests { AreFrameTests b.old (size_of tests.old.size) tests.old }
     requires rectangle { IsRectangle (size_of tests.old.size) rectangle }
-    ensures adds { OnOk result (AddsTests b.new b.old tests.new tests.old) }
-    ensures registers { OnOk result (CountsTests b.new b.old tests.new tests.old) }
-    ensures only { OnOk result (AddsFor (size_of tests.old.size) delay (Passes rectangle) tests.new tests.old) }
-    ensures none { OnOk result (AllPass tests.old.size.width tests.old.size.height (Passes rectangle) → tests.new ≡ tests.old) }
-    ensures tests { OnOk result (AreFrameTests b.new (size_of tests.old.size) tests.new) }
-    ensures test { IfOk result (IsFrameTest b.new (size_of tests.old.size) delay (Passes rectangle)) }
-    ensures depth { IfOk result (λ n. IsWithin b.new (is_control b.new.enable) 2 (OfNet n)) }
+    ensures { IfOk result (MakesFrameTest b.new b.old (size_of tests.old.size) delay
+        (Passes rectangle) tests.new tests.old) }
 {
     let across = across_test(b, tests, delay, rectangle.across)?;
     let down = down_test(b, tests, delay, rectangle.down)?;
@@ -307,13 +275,8 @@ fn test_of(
 ) -> Result<Net, OutOfMemory>
     requires tests { AreFrameTests b.old (size_of tests.old.size) tests.old }
     requires rectangle { IfSome rectangle (λ r. IsRectangle (size_of tests.old.size) r) }
-    ensures adds { OnOk result (AddsTests b.new b.old tests.new tests.old) }
-    ensures registers { OnOk result (CountsTests b.new b.old tests.new tests.old) }
-    ensures only { OnOk result (AddsFor (size_of tests.old.size) delay (PassesOn rectangle) tests.new tests.old) }
-    ensures none { OnOk result (AllPass tests.old.size.width tests.old.size.height (PassesOn rectangle) → tests.new ≡ tests.old) }
-    ensures tests { OnOk result (AreFrameTests b.new (size_of tests.old.size) tests.new) }
-    ensures test { IfOk result (IsFrameTest b.new (size_of tests.old.size) delay (PassesOn rectangle)) }
-    ensures depth { IfOk result (λ n. IsWithin b.new (is_control b.new.enable) 2 (OfNet n)) }
+    ensures { IfOk result (MakesFrameTest b.new b.old (size_of tests.old.size) delay
+        (PassesOn rectangle) tests.new tests.old) }
 {
     match rectangle {
         Some(rectangle) => {
@@ -330,9 +293,7 @@ fn test_of(
 impl FrameTests {
     /// No counters and no tests, for frames of this size.
     pub fn new(alloc: Global, size: FrameSize) -> FrameTests
-        ensures tests { (b : Netlist) → AreFrameTests b (size_of size) result }
-        ensures apart { (copies : List ℕ) → IsApart copies result }
-        ensures none { test_bits result ≡ 0 }
+        ensures none { AreNoTests (size_of size) result }
         ensures size { result.size ≡ size }
     {
         FrameTests {
@@ -353,13 +314,8 @@ impl FrameTests {
         dy: i32,
     ) -> Result<Net, OutOfMemory>
         requires tests { AreFrameTests b.old (size_of self.old.size) self.old }
-        ensures adds { OnOk result (AddsTests b.new b.old self.new self.old) }
-        ensures registers { OnOk result (CountsTests b.new b.old self.new self.old) }
-        ensures only { OnOk result (AddsFor (size_of self.old.size) delay (LeadBy (size_of self.old.size) steps.now dx dy) self.new self.old) }
-        ensures none { OnOk result (AllPass self.old.size.width self.old.size.height (LeadBy (size_of self.old.size) steps.now dx dy) → self.new ≡ self.old) }
-        ensures tests { OnOk result (AreFrameTests b.new (size_of self.old.size) self.new) }
-        ensures test { IfOk result (IsFrameTest b.new (size_of self.old.size) delay (LeadBy (size_of self.old.size) steps.now dx dy)) }
-        ensures depth { IfOk result (λ n. IsWithin b.new (is_control b.new.enable) 2 (OfNet n)) }
+        ensures { IfOk result (MakesFrameTest b.new b.old (size_of self.old.size) delay
+            (LeadBy (size_of self.old.size) steps.now dx dy) self.new self.old) }
     {
         let rectangle = passing_pixels(steps, self.size, dx, dy);
         let net = test_of(b, self, delay, rectangle)?;
@@ -369,13 +325,8 @@ impl FrameTests {
     /// The test that the pixel that came `delay` counted clocks ago passes exactly where the steps lead from it somewhere, each step that is not clamped to a point in the frame.
     pub fn leads(&mut self, b: &mut Builder, delay: u64, steps: &[Step]) -> Result<Net, OutOfMemory>
         requires tests { AreFrameTests b.old (size_of self.old.size) self.old }
-        ensures adds { OnOk result (AddsTests b.new b.old self.new self.old) }
-        ensures registers { OnOk result (CountsTests b.new b.old self.new self.old) }
-        ensures only { OnOk result (AddsFor (size_of self.old.size) delay (LeadOn (size_of self.old.size) steps.now) self.new self.old) }
-        ensures none { OnOk result (AllPass self.old.size.width self.old.size.height (LeadOn (size_of self.old.size) steps.now) → self.new ≡ self.old) }
-        ensures tests { OnOk result (AreFrameTests b.new (size_of self.old.size) self.new) }
-        ensures test { IfOk result (IsFrameTest b.new (size_of self.old.size) delay (LeadOn (size_of self.old.size) steps.now)) }
-        ensures depth { IfOk result (λ n. IsWithin b.new (is_control b.new.enable) 2 (OfNet n)) }
+        ensures { IfOk result (MakesFrameTest b.new b.old (size_of self.old.size) delay
+            (LeadOn (size_of self.old.size) steps.now) self.new self.old) }
     {
         let rectangle = leading_pixels(steps, self.size);
         let net = test_of(b, self, delay, rectangle)?;
@@ -385,13 +336,9 @@ impl FrameTests {
     /// A net that is whether `last` clocks were counted since a reset. It is 0 in a reset clock. Where there are counters, and the first frame has that many pixels, it uses one register of one bit. Else it is `net_build::started`.
     pub fn started(&self, b: &mut Builder, last: u64) -> Result<Net, OutOfMemory>
         requires tests { AreFrameTests b.old (size_of self.now.size) self.now }
-        ensures adds { OnOk result (AddsTests b.new b.old self.now self.now) }
-        ensures bits { OnOk result (register_bits b.new ≡ register_bits b.old + start_bits self.now.counters (size_of self.now.size) last) }
         ensures tests { OnOk result (AreFrameTests b.new (size_of self.now.size) self.now) }
-        ensures net { IfOk result (IsNet b.new) }
-        ensures width { IfOk result (λ n. net_width b.new n ≡ 1) }
-        ensures starts { IfOk result (Starts b.new last) }
-        ensures control { IfOk result (λ n. IsControl b.new (OfNet n)) }
+        ensures start { IfOk result
+            (MakesStart b.new b.old (size_of self.now.size) self.now.counters last) }
     {
         match self.counters {
             Some(counters) => {

@@ -1,13 +1,13 @@
 // The pixels that steps lead by exactly some way.
 
-ghost use Rattle.std.specs.Prelude.{◌≡◌, ◌<◌, ◌≤◌, ◌↔◌, ℕ, ℤ, pos, ◌+ℤ◌, IsTrue, IfSome, Some};
+ghost use Rattle.std.specs.Prelude.{◌≡◌, ◌≤◌, ◌↔◌, ℕ, ℤ, pos, ◌+ℤ◌, IsTrue, IfSome, Some};
 ghost use Rattle.dk_base.specs.declared.TheConstants.{MAX_SIDE};
 ghost use Rattle.dk_base.specs.Frames.{in_frame};
 ghost use Rattle.dk_base.specs.FrameSizes.{size_of};
 ghost use Rattle.frame_paths.specs.Moves.{Leads, IsIn, IsInOn, IsMoves, IsInterval};
 ghost use Rattle.frame_paths.specs.Paths.{LeadsTo, LeadsToOn, IsPath};
 ghost use Rattle.edge_select.specs.Steps.{Lead, LeadBy, LeadOn};
-ghost use Rattle.edge_select.specs.Passes.{IsRectangle, Passes, PassesOn};
+ghost use Rattle.edge_select.specs.Passes.{ArePixels, IsRectangle, Passes, PassesOn};
 
 use crate::step::Step;
 use dk_base::FrameSize;
@@ -23,7 +23,8 @@ pub struct Rectangle {
 // What the steps make of the frame's pixels, or None where they lead nowhere.
 fn path_of(steps: &[Step], size: FrameSize) -> Option<Path>
     ensures path { IfSome result (λ p. IsPath (size_of size) p) }
-    ensures leads { (x y u v : ℤ) → IsTrue (in_frame (size_of size) x y) → LeadsToOn result x y u v ↔ Lead (size_of size) steps.now x y u v }
+    ensures leads { (x y u v : ℤ) → IsTrue (in_frame (size_of size) x y)
+        → LeadsToOn result x y u v ↔ Lead (size_of size) steps.now x y u v }
 {
     let mut path = Path::none(size);
     for step in steps {
@@ -53,7 +54,8 @@ fn joined(across: Option<Interval>, down: Option<Interval>) -> Option<Rectangle>
 fn led_by(path: Path, size: FrameSize, dx: i32, dy: i32) -> Option<Rectangle>
     requires { IsPath (size_of size) path }
     ensures within { IfSome result (λ p. IsRectangle (size_of size) p) }
-    ensures passes { (x y : ℕ) → PassesOn result x y ↔ LeadsTo path (pos x) (pos y) (pos x +ℤ dx) (pos y +ℤ dy) }
+    ensures passes { (x y : ℕ) → PassesOn result x y
+        ↔ LeadsTo path (pos x) (pos y) (pos x +ℤ dx) (pos y +ℤ dy) }
 {
     let across = path.across.led_by(size.width, dx);
     let down = path.down.led_by(size.height, dy);
@@ -77,7 +79,8 @@ fn led(moves: Moves, side: u32) -> Interval
 fn led_on(path: Path, size: FrameSize) -> Rectangle
     requires { IsPath (size_of size) path }
     ensures within { IsRectangle (size_of size) result }
-    ensures passes { (x y : ℕ) → Passes result x y ↔ (u : ℤ) × (v : ℤ) × LeadsTo path (pos x) (pos y) u v }
+    ensures passes { (x y : ℕ) → Passes result x y
+        ↔ (u : ℤ) × (v : ℤ) × LeadsTo path (pos x) (pos y) u v }
 {
     let across = led(path.across, size.width);
     let down = led(path.down, size.height);
@@ -86,8 +89,7 @@ fn led_on(path: Path, size: FrameSize) -> Rectangle
 
 // The pixels that the steps lead somewhere, or None where there is none.
 pub fn leading_pixels(steps: &[Step], size: FrameSize) -> Option<Rectangle>
-    ensures within { IfSome result (λ p. IsRectangle (size_of size) p) }
-    ensures passes { (x y : ℕ) → x < size.width → y < size.height → PassesOn result x y ↔ LeadOn (size_of size) steps.now x y }
+    ensures { ArePixels (size_of size) (LeadOn (size_of size) steps.now) result }
 {
     match path_of(steps, size) {
         Some(path) => Some(led_on(path, size)),
@@ -97,8 +99,7 @@ pub fn leading_pixels(steps: &[Step], size: FrameSize) -> Option<Rectangle>
 
 // The pixels that the steps lead by exactly `dx` columns to the right and `dy` rows down, or None where there is none.
 pub fn passing_pixels(steps: &[Step], size: FrameSize, dx: i32, dy: i32) -> Option<Rectangle>
-    ensures within { IfSome result (λ p. IsRectangle (size_of size) p) }
-    ensures passes { (x y : ℕ) → x < size.width → y < size.height → PassesOn result x y ↔ LeadBy (size_of size) steps.now dx dy x y }
+    ensures { ArePixels (size_of size) (LeadBy (size_of size) steps.now dx dy) result }
 {
     match path_of(steps, size) {
         Some(path) => led_by(path, size, dx, dy),

@@ -1,9 +1,8 @@
 // Pixels of a frame, as nets.
 
-ghost use Rattle.std.specs.Prelude.{◌≡◌, ◌-◌, ◌<◌, ◌≤◌, ◌^◌};
+ghost use Rattle.std.specs.Prelude.{◌≡◌, ◌-◌, ◌≤◌};
 ghost use Rattle.dk_base.specs.declared.TheConstants.{MAX_SIDE};
-ghost use Rattle.dk_base.specs.Numbers.{bit_count};
-ghost use Rattle.wiring.specs.Sizes.{IsWidth};
+ghost use Rattle.edge_select.specs.Logic.{IsWidthFor};
 
 use dk_base::{FrameSize, bits_for};
 use wiring::Net;
@@ -28,9 +27,7 @@ pub fn last_of(side: u32) -> u64
 pub fn width_for(side: u32) -> u8
     requires some { 1 ≤ side }
     requires most { side ≤ MAX_SIDE }
-    ensures count { result ≡ bit_count (side - 1) }
-    ensures width { IsWidth result }
-    ensures fits { side - 1 < 2 ^ result }
+    ensures { IsWidthFor side result }
 {
     bits_for(last_of(side))
 }

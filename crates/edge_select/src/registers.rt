@@ -1,12 +1,10 @@
 // Registers of one bit that take tests.
 
-ghost use Rattle.std.specs.Prelude.{◌≡◌, ◌<◌, ◌^◌, [], ◌∷◌, ◌++◌, IfOk};
-ghost use Rattle.wiring.specs.Netlist.{net_width};
+ghost use Rattle.std.specs.Prelude.{◌<◌, ◌^◌, [], ◌∷◌, ◌++◌, IfOk};
 ghost use Rattle.wiring.specs.Snapshot.{net_value};
-ghost use Rattle.net_build.specs.Draft.{IsNet};
-ghost use Rattle.net_build.specs.Logic.{AddsLogic, Computes};
+ghost use Rattle.net_build.specs.Logic.{Computes};
 ghost use Rattle.net_build.specs.Counters.{control_nets, taken};
-ghost use Rattle.edge_select.specs.Logic.{IsBit};
+ghost use Rattle.edge_select.specs.Logic.{HasOneBit, IsBit, Wires};
 ghost use Rattle.edge_select.specs.FrameTests.{AddsRegisterOf, takes, sources};
 
 use dk_base::OutOfMemory;
@@ -21,12 +19,10 @@ fn choice_of(
     register: Net,
 ) -> Result<Net, OutOfMemory>
     requires load { IsBit b.old load }
-    requires test { IsNet b.old test }
-    requires test_width { net_width b.old test ≡ 1 }
-    requires register { IsNet b.old register }
-    requires register_width { net_width b.old register ≡ 1 }
-    ensures logic { AddsLogic b.new b.old }
-    ensures net { IfOk result (Computes b.new b.old (sources load test register) 1 (takes load test register)) }
+    requires test { HasOneBit b.old test }
+    requires register { HasOneBit b.old register }
+    ensures { Wires b.new b.old result
+        (Computes b.new b.old (sources load test register) 1 (takes load test register)) }
 {
     match load {
         None => Ok(test),
@@ -42,14 +38,12 @@ fn choice_of(
 
 // What a register takes so that it is `first` after a reset and still in held clocks.
 fn still_value(b: &mut Builder, register: Net, next: Net, first: u64) -> Result<Net, OutOfMemory>
-    requires register { IsNet b.old register }
-    requires next { IsNet b.old next }
-    requires register_width { net_width b.old register ≡ 1 }
-    requires next_width { net_width b.old next ≡ 1 }
+    requires register { HasOneBit b.old register }
+    requires next { HasOneBit b.old next }
     requires first { first < 2 ^ 1 }
-    ensures logic { AddsLogic b.new b.old }
-    ensures net { IfOk result (Computes b.new b.old (control_nets b.old.enable ++ register ∷ (next ∷ []))
-        1 (λ s. taken b.old.enable first (net_value s register) (net_value s next) s)) }
+    ensures { Wires b.new b.old result
+        (Computes b.new b.old (control_nets b.old.enable ++ register ∷ (next ∷ [])) 1
+        (λ s. taken b.old.enable first (net_value s register) (net_value s next) s)) }
 {
     let value = register_value(b, register, next, 1, first)?;
     Ok(value)
@@ -64,8 +58,7 @@ pub fn register_of(
 ) -> Result<Net, OutOfMemory>
     requires load { IsBit b.old load }
     requires first { first < 2 ^ 1 }
-    requires test { IsNet b.old test }
-    requires width { net_width b.old test ≡ 1 }
+    requires test { HasOneBit b.old test }
     ensures adds { IfOk result (AddsRegisterOf b.new b.old load first test) }
 {
     let register = b.reg(1)?;

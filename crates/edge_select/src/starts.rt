@@ -1,19 +1,16 @@
 // Whether clocks were counted, by the counters of column and row.
 
-ghost use Rattle.std.specs.Prelude.{◌≡◌, ◌+◌, ◌-◌, ◌<◌, ◌≤◌, ◌==◌, ◌&&◌, if◌then◌else◌, IsTrue, [], ◌∷◌, Some, IfOk, OnOk};
-ghost use Rattle.dk_base.specs.Frames.{area, column, row};
+ghost use Rattle.std.specs.Prelude.{◌-◌, ◌<◌, ◌≤◌, ◌==◌, ◌&&◌, if◌then◌else◌, IsTrue, [], ◌∷◌, Some, IfOk, OnOk};
+ghost use Rattle.dk_base.specs.Frames.{area};
 ghost use Rattle.dk_base.specs.FrameSizes.{size_of};
-ghost use Rattle.wiring.specs.declared.netlist.Holder.TheVariants.{OfNet};
-ghost use Rattle.wiring.specs.Netlist.{net_width, reset_net};
+ghost use Rattle.wiring.specs.Netlist.{reset_net};
 ghost use Rattle.wiring.specs.Snapshot.{net_value};
-ghost use Rattle.wiring.specs.Clock.{bit};
-ghost use Rattle.net_build.specs.Draft.{IsNet};
-ghost use Rattle.net_build.specs.Control.{IsControl};
-ghost use Rattle.net_build.specs.Logic.{AddsLogic, Computes};
-ghost use Rattle.net_build.specs.Registers.{register_bits};
-ghost use Rattle.net_build.specs.Counters.{Starts};
+ghost use Rattle.net_build.specs.Logic.{Computes};
+ghost use Rattle.edge_select.specs.Counters.{IsPlaceOf};
+ghost use Rattle.edge_select.specs.Logic.{HasOneBit, Wires, WiresTest};
+ghost use Rattle.edge_select.specs.MadeTests.{AddsBit, MakesStart};
 ghost use Rattle.edge_select.specs.Pixels.{HasPixel};
-ghost use Rattle.edge_select.specs.FrameTests.{AddsBeside, AreCounters, IsStartTest, start_bits};
+ghost use Rattle.edge_select.specs.FrameTests.{AreCounters, IsStartTest};
 
 use crate::bands::equal_to;
 use crate::counters::Counters;
@@ -33,10 +30,7 @@ struct Spot {
 
 // The column and the row of a pixel, counted from 0 through frames one after another.
 fn spot_of(size: FrameSize, pixel: u64) -> Spot
-    ensures column { result.column ≡ column (size_of size) pixel }
-    ensures row { result.row ≡ row (size_of size) pixel }
-    ensures in_row { result.column < size.width }
-    ensures in_column { result.row < size.height }
+    ensures { IsPlaceOf (size_of size) pixel result.column result.row }
 {
     let width = u64::from(size.width);
     let height = u64::from(size.height);
@@ -49,10 +43,7 @@ fn spot_of(size: FrameSize, pixel: u64) -> Spot
 // The pixel of the clock after which `last` clocks were counted.
 fn last_spot(size: FrameSize, last: u64) -> Spot
     requires { 1 < last }
-    ensures column { result.column ≡ column (size_of size) (last - 1) }
-    ensures row { result.row ≡ row (size_of size) (last - 1) }
-    ensures in_row { result.column < size.width }
-    ensures in_column { result.row < size.height }
+    ensures { IsPlaceOf (size_of size) (last - 1) result.column result.row }
 {
     spot_of(size, last - 1)
 }
@@ -62,9 +53,9 @@ fn is_at(b: &mut Builder, pixel: &Pixel, spot: Spot) -> Result<Net, OutOfMemory>
     requires pixel { HasPixel b.old pixel.now }
     requires in_row { spot.column < pixel.now.size.width }
     requires in_column { spot.row < pixel.now.size.height }
-    ensures logic { AddsLogic b.new b.old }
-    ensures test { IfOk result (Computes b.new b.old (pixel.now.column ∷ (pixel.now.row ∷ [])) 1
-        (λ s. bit (net_value s pixel.now.column == spot.column && net_value s pixel.now.row == spot.row))) }
+    ensures { WiresTest b.new b.old result (pixel.now.column ∷ (pixel.now.row ∷ []))
+        (λ s. net_value s pixel.now.column == spot.column
+        && net_value s pixel.now.row == spot.row) }
 {
     let across = equal_to(b, pixel.column, width_for(pixel.size.width), spot.column)?;
     let down = equal_to(b, pixel.row, width_for(pixel.size.height), spot.row)?;
@@ -80,8 +71,7 @@ fn start_register(b: &mut Builder, k: &Counters, last: u64) -> Result<Net, OutOf
     requires counters { AreCounters b.old (size_of k.now.pixel.size) k.now }
     requires some { 1 < last }
     requires most { last ≤ area (size_of k.now.pixel.size) }
-    ensures adds { OnOk result (AddsBeside b.new b.old (Some k.now) (Some k.now)) }
-    ensures bits { OnOk result (register_bits b.new ≡ register_bits b.old + 1) }
+    ensures register { OnOk result (AddsBit b.new b.old k.now) }
     ensures test { IfOk result (IsStartTest b.new last) }
 {
     let spot = last_spot(k.pixel.size, last);
@@ -93,10 +83,9 @@ fn start_register(b: &mut Builder, k: &Counters, last: u64) -> Result<Net, OutOf
 
 // What a register of one bit has, and 0 in a reset clock.
 fn unless_reset(b: &mut Builder, register: Net) -> Result<Net, OutOfMemory>
-    requires register { IsNet b.old register }
-    requires width { net_width b.old register ≡ 1 }
-    ensures logic { AddsLogic b.new b.old }
-    ensures net { IfOk result (Computes b.new b.old (reset_net ∷ (register ∷ [])) 1 (λ s. if net_value s reset_net == 1 then 0 else net_value s register)) }
+    requires { HasOneBit b.old register }
+    ensures { Wires b.new b.old result (Computes b.new b.old (reset_net ∷ (register ∷ [])) 1
+        (λ s. if net_value s reset_net == 1 then 0 else net_value s register)) }
 {
     let reset = b.rst();
     let net = gate(
@@ -120,12 +109,7 @@ fn is_set_at_a_pixel(size: FrameSize, last: u64) -> bool
 // A net that is whether `last` clocks were counted since a reset. It is 0 in a reset clock. From 1 to the end of the first frame it uses one register of one bit.
 pub fn started_by(b: &mut Builder, k: &Counters, last: u64) -> Result<Net, OutOfMemory>
     requires counters { AreCounters b.old (size_of k.now.pixel.size) k.now }
-    ensures adds { OnOk result (AddsBeside b.new b.old (Some k.now) (Some k.now)) }
-    ensures bits { OnOk result (register_bits b.new ≡ register_bits b.old + start_bits (Some k.now) (size_of k.now.pixel.size) last) }
-    ensures net { IfOk result (IsNet b.new) }
-    ensures width { IfOk result (λ n. net_width b.new n ≡ 1) }
-    ensures starts { IfOk result (Starts b.new last) }
-    ensures control { IfOk result (λ n. IsControl b.new (OfNet n)) }
+    ensures { IfOk result (MakesStart b.new b.old (size_of k.now.pixel.size) (Some k.now) last) }
 {
     if is_set_at_a_pixel(k.pixel.size, last) {
         let register = start_register(b, k, last)?;

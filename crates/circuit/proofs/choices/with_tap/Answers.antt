@@ -1,3 +1,4 @@
+use Rattle.circuit.proofs.Growing.{grow_none, grow_then}
 use Rattle.std.proofs.Common.{rules, ◌≡◌, ℕ, ◌∙◌, refl, sym, subst, w32, to_z, of_z, FitsSigned}
 use Rattle.std.specs.Prelude.{ℤ, ◌∷◌, IfSome}
 use Rattle.wiring.specs.Netlist.{net_width}
@@ -11,11 +12,9 @@ use Rattle.circuit.specs.Taps.{size_in}
 use Rattle.circuit.specs.Reads.{chosen_by, choice_nets}
 use Rattle.circuit.specs.Leaves.{leaf_at}
 use Rattle.circuit.specs.Depths.{MayMean}
-use Rattle.edge_select.proofs.Framed.{tests_more}
-use Rattle.circuit.proofs.Placing.{tests_none, tests_logic, columns_below, rows_below}
+use Rattle.circuit.proofs.Placing.{columns_below, rows_below}
 use Rattle.circuit.proofs.Choosing.{choice_kept, choice_taken, choice_tested}
 use Rattle.circuit.proofs.Taking.{own_read, chosen_net_more, chosen_width_more}
-use Rattle.circuit.proofs.Registered.{needed_none, needed_then}
 use Rattle.circuit.specs.Registers.{AsksRead}
 use Rattle.circuit.proofs.choices.with_tap.Goals as goal
 
@@ -29,55 +28,22 @@ untold P x y fx fy h = subst (λ (v : ℤ). P (to_z w32 (of_z w32 x)) v) (sym (t
 pub tap_of-tap-requires-clause-read : goal.tap_of-tap-requires-clause-read
 tap_of-tap-requires-clause-read c =
     let r = c.args.reader.now in
-    (own_read c.args.b.now r.ir.now r.plan.now r.taps.now r.image c.args.read c.law.ensures c.requires.reading c.requires.read).among
+    (own_read c.args.b.now r.ir.now r.plan.now r.taps.now r.image c.args.read c.law.ensures c.requires.reader.reading c.requires.read).among
 
 pub tap_of-tap-requires-clause-there : goal.tap_of-tap-requires-clause-there
 tap_of-tap-requires-clause-there c =
     let r = c.args.reader.now in
-    (own_read c.args.b.now r.ir.now r.plan.now r.taps.now r.image c.args.read c.law.ensures c.requires.reading c.requires.read).there
+    (own_read c.args.b.now r.ir.now r.plan.now r.taps.now r.image c.args.read c.law.ensures c.requires.reader.reading c.requires.read).there
 
 pub tap_of-tap-requires-clause-one_each : goal.tap_of-tap-requires-clause-one_each
 tap_of-tap-requires-clause-one_each c =
     let r = c.args.reader.now in
-    (own_read c.args.b.now r.ir.now r.plan.now r.taps.now r.image c.args.read c.law.ensures c.requires.reading c.requires.read).one_each
+    (own_read c.args.b.now r.ir.now r.plan.now r.taps.now r.image c.args.read c.law.ensures c.requires.reader.reading c.requires.read).one_each
 
 pub width-requires : goal.width-requires
 width-requires c =
     let r = c.args.reader.now in
-    (own_read c.args.b.now r.ir.now r.plan.now r.taps.now r.image c.args.read c.law.ensures c.requires.reading c.requires.read).kept
-
-pub chosen_by-requires-clause-bits : goal.chosen_by-requires-clause-bits
-chosen_by-requires-clause-bits c =
-    let r = c.args.reader.now in
-    let own = own_read c.args.b.now r.ir.now r.plan.now r.taps.now r.image c.args.read c.law.ensures c.requires.reading c.requires.read in
-    subst IsWidth (sym c.width.ensures) own.wide
-
-pub chosen_by-requires-clause-tap : goal.chosen_by-requires-clause-tap
-chosen_by-requires-clause-tap c =
-    let r = c.args.reader.now in
-    let own = own_read c.args.b.now r.ir.now r.plan.now r.taps.now r.image c.args.read c.law.ensures c.requires.reading c.requires.read in
-    net_more c.test_at.new.b c.args.b.now c.in_ok-test-in-Sometimes.ensures.adds.includes c.tap_of-tap.result (own.net c.tap_of-tap.result c.tap_of-tap.ensures)
-
-pub chosen_by-requires-clause-tap_width : goal.chosen_by-requires-clause-tap_width
-chosen_by-requires-clause-tap_width c =
-    let r = c.args.reader.now in
-    let own = own_read c.args.b.now r.ir.now r.plan.now r.taps.now r.image c.args.read c.law.ensures c.requires.reading c.requires.read in
-    width_more c.test_at.new.b c.args.b.now c.in_ok-test-in-Sometimes.ensures.adds.includes c.tap_of-tap.result (own.net c.tap_of-tap.result c.tap_of-tap.ensures).declared
-    ∙ own.width c.tap_of-tap.result c.tap_of-tap.ensures
-    ∙ sym (c.width.ensures ∙ own.bits)
-
-pub chosen_by-requires-clause-before : goal.chosen_by-requires-clause-before
-chosen_by-requires-clause-before c = chosen_net_more c.test_at.new.b c.args.b.now c.args.before c.in_ok-test-in-Sometimes.ensures.adds.includes c.requires.before
-
-pub chosen_by-requires-clause-before_width : goal.chosen_by-requires-clause-before_width
-chosen_by-requires-clause-before_width c =
-    let r = c.args.reader.now in
-    let own = own_read c.args.b.now r.ir.now r.plan.now r.taps.now r.image c.args.read c.law.ensures c.requires.reading c.requires.read in
-    subst (λ (w : ℕ). IfSome c.args.before (λ n. net_width c.test_at.new.b n ≡ w)) (sym (c.width.ensures ∙ own.bits))
-    (chosen_width_more c.test_at.new.b c.args.b.now c.args.before _ c.in_ok-test-in-Sometimes.ensures.adds.includes c.requires.before c.requires.before_width)
-
-pub returns-in-Never-clause-adds : goal.returns-in-Never-clause-adds
-returns-in-Never-clause-adds c = tests_none c.args.b.now c.args.tests.now
+    (own_read c.args.b.now r.ir.now r.plan.now r.taps.now r.image c.args.read c.law.ensures c.requires.reader.reading c.requires.read).kept
 
 pub returns-in-Never-clause-choice : goal.returns-in-Never-clause-choice
 returns-in-Never-clause-choice c first reads inc before =
@@ -91,14 +57,11 @@ returns-in-Never-clause-choice c first reads inc before =
     in
     choice_kept c.args.b.now first plan r.taps.now r.image reads c.args.read (leaf_at c.args.read.g c.args.steps.now) _ c.args.before (λ x y wide high same. here x y wide high) (columns_below plan c.law.ensures) (rows_below plan c.law.ensures) before
 
-pub returns-in-Always-clause-adds : goal.returns-in-Always-clause-adds
-returns-in-Always-clause-adds c = tests_none c.args.b.now c.args.tests.now
-
 pub returns-in-Always-clause-choice : goal.returns-in-Always-clause-choice
 returns-in-Always-clause-choice c first reads inc before =
     let r = c.args.reader.now in
     let plan = r.plan.now in
-    let own = own_read c.args.b.now r.ir.now r.plan.now r.taps.now r.image c.args.read c.law.ensures c.requires.reading c.requires.read in
+    let own = own_read c.args.b.now r.ir.now r.plan.now r.taps.now r.image c.args.read c.law.ensures c.requires.reader.reading c.requires.read in
     let across : FitsSigned w32 c.args.read.dx = search rules in
     let down : FitsSigned w32 c.args.read.dy = search rules in
     let all = c.passing.ensures.always.0 c.in-Always.is in
@@ -107,12 +70,6 @@ returns-in-Always-clause-choice c first reads inc before =
     in
     choice_taken c.args.b.now first plan r.taps.now r.image reads c.args.read (leaf_at c.args.read.g c.args.steps.now) _ c.args.before c.tap_of-tap.result refl here (columns_below plan c.law.ensures) (rows_below plan c.law.ensures) c.tap_of-tap.ensures
     (own.net c.tap_of-tap.result c.tap_of-tap.ensures) (own.width c.tap_of-tap.result c.tap_of-tap.ensures) inc
-
-pub returns-in_ok-net-in-Sometimes-clause-adds : goal.returns-in_ok-net-in-Sometimes-clause-adds
-returns-in_ok-net-in-Sometimes-clause-adds c = tests_logic c.chosen_by.new.b c.test_at.new.b c.args.b.now c.test_at.new.tests c.args.tests.now c.in_ok-test-in-Sometimes.ensures.adds c.in_ok-net-in-Sometimes.ensures.logic
-
-pub returns-in_ok-net-in-Sometimes-clause-tests : goal.returns-in_ok-net-in-Sometimes-clause-tests
-returns-in_ok-net-in-Sometimes-clause-tests c = tests_more c.chosen_by.new.b c.test_at.new.b (size_in c.args.reader.now.plan.now) c.test_at.new.tests c.in_ok-net-in-Sometimes.ensures.logic.includes c.in_ok-test-in-Sometimes.ensures.tests
 
 pub returns-in_ok-net-in-Sometimes-clause-choice : goal.returns-in_ok-net-in-Sometimes-clause-choice
 returns-in_ok-net-in-Sometimes-clause-choice c first reads inc before =
@@ -127,21 +84,45 @@ returns-in_ok-net-in-Sometimes-clause-choice c first reads inc before =
     let never = c.passing.ensures.never.1 (untold (λ (x y : ℤ). NonePass c.columns.result c.rows.result (LeadBy (record { width = c.columns.result; height = c.rows.result }) c.args.steps.now x y)) c.args.read.dx c.args.read.dy across down none) in
     absurd (let e : ⊥ = cc in e)
     in
-    let own = own_read c.args.b.now r.ir.now r.plan.now r.taps.now r.image c.args.read c.law.ensures c.requires.reading c.requires.read in
+    let own = own_read c.args.b.now r.ir.now r.plan.now r.taps.now r.image c.args.read c.law.ensures c.requires.reader.reading c.requires.read in
     let tap = c.tap_of-tap.result in
     let test = c.in_ok-test-in-Sometimes.test in
     let net = c.in_ok-net-in-Sometimes.net in
-    let one = subst (λ (w : ℕ). Computes c.chosen_by.new.b c.test_at.new.b (test ∷ (tap ∷ choice_nets c.args.before)) w (chosen_by test tap c.args.before) net) (c.width.ensures ∙ own.bits) c.in_ok-net-in-Sometimes.ensures.net in
+    let one = subst (λ (w : ℕ). Computes c.chosen_by.new.b c.test_at.new.b (test ∷ (tap ∷ choice_nets c.args.before)) w (chosen_by test tap c.args.before) net) (c.width.ensures ∙ own.bits) c.in_ok-net-in-Sometimes.ensures.test in
     choice_tested c.chosen_by.new.b c.test_at.new.b c.args.b.now first r.plan.now r.taps.now r.image reads c.args.read (leaf_at c.args.read.g c.args.steps.now) _ c.args.before test tap net refl some c.tap_of-tap.ensures
-    c.in_ok-net-in-Sometimes.ensures.logic.includes c.in_ok-test-in-Sometimes.ensures.adds.includes inc c.in_ok-test-in-Sometimes.ensures.test one c.in_ok-net-in-Sometimes.ensures.levels before
+    c.in_ok-net-in-Sometimes.ensures.logic.includes c.in_ok-test-in-Sometimes.ensures.adds.includes inc c.in_ok-test-in-Sometimes.ensures.test one c.in_ok-net-in-Sometimes.ensures.depth before
 
-pub returns-in-Never-clause-needed : goal.returns-in-Never-clause-needed
-returns-in-Never-clause-needed c = needed_none c.args.b.now c.args.tests.now c.args.reader.now.plan.now (AsksRead c.args.reader.now.image (leaf_at c.args.read.g c.args.steps.now) c.args.read)
+pub chosen_by-requires : goal.chosen_by-requires
+chosen_by-requires c = record {
+  bits = let r = c.args.reader.now in
+      let own = own_read c.args.b.now r.ir.now r.plan.now r.taps.now r.image c.args.read c.law.ensures c.requires.reader.reading c.requires.read in
+      subst IsWidth (sym c.width.ensures) own.wide;
+  there = c.in_ok-test-in-Sometimes.ensures.test.there;
+  one_bit = c.in_ok-test-in-Sometimes.ensures.test.width;
+  tapped = let r = c.args.reader.now in
+      let own = own_read c.args.b.now r.ir.now r.plan.now r.taps.now r.image c.args.read c.law.ensures c.requires.reader.reading c.requires.read in
+      net_more c.test_at.new.b c.args.b.now c.in_ok-test-in-Sometimes.ensures.adds.includes c.tap_of-tap.result (own.net c.tap_of-tap.result c.tap_of-tap.ensures);
+  tap_width = let r = c.args.reader.now in
+      let own = own_read c.args.b.now r.ir.now r.plan.now r.taps.now r.image c.args.read c.law.ensures c.requires.reader.reading c.requires.read in
+      width_more c.test_at.new.b c.args.b.now c.in_ok-test-in-Sometimes.ensures.adds.includes c.tap_of-tap.result (own.net c.tap_of-tap.result c.tap_of-tap.ensures).declared
+      ∙ own.width c.tap_of-tap.result c.tap_of-tap.ensures
+      ∙ sym (c.width.ensures ∙ own.bits);
+  before = record {
+    there = chosen_net_more c.test_at.new.b c.args.b.now c.args.before c.in_ok-test-in-Sometimes.ensures.adds.includes c.requires.before.there;
+    width = let r = c.args.reader.now in
+        let own = own_read c.args.b.now r.ir.now r.plan.now r.taps.now r.image c.args.read c.law.ensures c.requires.reader.reading c.requires.read in
+        subst (λ (w : ℕ). IfSome c.args.before (λ n. net_width c.test_at.new.b n ≡ w)) (sym (c.width.ensures ∙ own.bits))
+        (chosen_width_more c.test_at.new.b c.args.b.now c.args.before _ c.in_ok-test-in-Sometimes.ensures.adds.includes c.requires.before.there c.requires.before.width);
+  };
+}
 
-pub returns-in-Always-clause-needed : goal.returns-in-Always-clause-needed
-returns-in-Always-clause-needed c = needed_none c.args.b.now c.args.tests.now c.args.reader.now.plan.now (AsksRead c.args.reader.now.image (leaf_at c.args.read.g c.args.steps.now) c.args.read)
+pub returns-in-Never-clause-grows : goal.returns-in-Never-clause-grows
+returns-in-Never-clause-grows c = grow_none c.args.b.now c.args.tests.now c.args.reader.now.plan.now (AsksRead c.args.reader.now.image (leaf_at c.args.read.g c.args.steps.now) c.args.read) c.requires.reader.tests
 
-pub returns-in_ok-net-in-Sometimes-clause-needed : goal.returns-in_ok-net-in-Sometimes-clause-needed
-returns-in_ok-net-in-Sometimes-clause-needed c =
-    needed_then c.chosen_by.new.b c.test_at.new.b c.args.b.now c.test_at.new.tests c.args.tests.now c.args.reader.now.plan.now (AsksRead c.args.reader.now.image (leaf_at c.args.read.g c.args.steps.now) c.args.read)
-    c.in_ok-test-in-Sometimes.ensures.needed c.in_ok-net-in-Sometimes.ensures.logic
+pub returns-in-Always-clause-grows : goal.returns-in-Always-clause-grows
+returns-in-Always-clause-grows c = grow_none c.args.b.now c.args.tests.now c.args.reader.now.plan.now (AsksRead c.args.reader.now.image (leaf_at c.args.read.g c.args.steps.now) c.args.read) c.requires.reader.tests
+
+pub returns-in_ok-net-in-Sometimes-clause-grows : goal.returns-in_ok-net-in-Sometimes-clause-grows
+returns-in_ok-net-in-Sometimes-clause-grows c =
+    let made = c.in_ok-test-in-Sometimes.ensures in
+    grow_then c.chosen_by.new.b c.test_at.new.b c.args.b.now c.test_at.new.tests c.args.tests.now c.args.reader.now.plan.now (AsksRead c.args.reader.now.image (leaf_at c.args.read.g c.args.steps.now) c.args.read) (record { adds = made.adds; tests = made.tests; needed = made.needed }) c.in_ok-net-in-Sometimes.ensures.logic

@@ -1,15 +1,11 @@
+use Rattle.circuit.proofs.Growing.{grow_none}
 use Rattle.std.proofs.Common.{refl, subst}
 use Rattle.circuit.specs.declared.known.BodyLeaves.{BodyLeaves}
 use Rattle.circuit.specs.Leaves.{LeafRead, leaf_at}
 use Rattle.circuit.specs.Known.{IsKnownNet}
 use Rattle.circuit.proofs.Leafing.{leaves_known}
-use Rattle.circuit.proofs.Placing.{tests_none}
-use Rattle.circuit.proofs.Registered.{needed_none}
 use Rattle.circuit.specs.Registers.{AsksLeaf}
 use Rattle.circuit.proofs.leaves.push_net.Goals as goal
-
-pub returns-in_ok-push-in-Some-clause-adds : goal.returns-in_ok-push-in-Some-clause-adds
-returns-in_ok-push-in-Some-clause-adds c = tests_none c.args.b.now c.args.tests.now
 
 pub returns-in_ok-push-in-Some-clause-leaves : goal.returns-in_ok-push-in-Some-clause-leaves
 returns-in_ok-push-in-Some-clause-leaves c =
@@ -19,5 +15,5 @@ returns-in_ok-push-in-Some-clause-leaves c =
     let is = subst (λ (l : LeafRead). IsKnownNet before.nets.reads.items before.known l c.in-Some.net) c.in_ok-key.ensures c.in-Some.ensures in
     leaves_known r.ir.now r.plan.now r.taps.now r.image c.args.b.now now before (leaf_at c.args.leaf.image c.args.leaf.steps.now) c.in-Some.net c.in_ok-push-in-Some.ensures.items refl refl is
 
-pub returns-in_ok-push-in-Some-clause-needed : goal.returns-in_ok-push-in-Some-clause-needed
-returns-in_ok-push-in-Some-clause-needed c = needed_none c.args.b.now c.args.tests.now c.args.reader.now.plan.now (AsksLeaf c.args.reader.now.plan.now c.args.reader.now.image (leaf_at c.args.leaf.image c.args.leaf.steps.now))
+pub returns-in_ok-push-in-Some-clause-grows : goal.returns-in_ok-push-in-Some-clause-grows
+returns-in_ok-push-in-Some-clause-grows c = grow_none c.args.b.now c.args.tests.now c.args.reader.now.plan.now (AsksLeaf c.args.reader.now.plan.now c.args.reader.now.image (leaf_at c.args.leaf.image c.args.leaf.steps.now)) c.requires.reader.tests

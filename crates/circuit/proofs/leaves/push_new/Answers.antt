@@ -13,4 +13,4 @@ returns-clause-leaves c =
     let place : c.len.result ≡ length before.nets.reads.items = search rules in
     let added = subst (λ (l : LeafRead). IsAdded c.add.new.self before.known (placed_at l c.len.result)) c.requires.key c.in_ok-add.ensures in
     let known = subst (λ (n : ℕ). IsAdded c.add.new.self before.known (placed_at (leaf_at c.args.leaf.image c.args.leaf.steps.now) n)) place added in
-    leaves_new r.ir.now r.plan.now r.taps.now r.image c.read_net.new.b c.args.b.now now before (leaf_at c.args.leaf.image c.args.leaf.steps.now) c.in_ok-net.net c.in_ok-net.ensures.adds.includes c.in_ok-push.ensures.items refl known c.in_ok-net.ensures.ty c.in_ok-net.ensures.net
+    leaves_new r.ir.now r.plan.now r.taps.now r.image c.read_net.new.b c.args.b.now now before (leaf_at c.args.leaf.image c.args.leaf.steps.now) c.in_ok-net.net c.in_ok-net.ensures.grows.adds.includes c.in_ok-push.ensures.items refl known c.in_ok-net.ensures.read.ty c.in_ok-net.ensures.read.net

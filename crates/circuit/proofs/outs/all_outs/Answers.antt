@@ -21,7 +21,7 @@ pub loop-preserved : goal.loop-preserved
 loop-preserved c =
     let more : c.push.new.self.items ≡ c.loop.outs.items ++ c.in_ok-out.out ∷ [] = search rules in
     let out : IsOut c.out_behind.new.b c.args.plan.now c.args.nets.now (length c.loop.outs.items) c.in_ok-out.out =
-    subst (λ (outs : List (Net × Net)). IsOut c.out_behind.new.b c.args.plan.now c.args.nets.now (length outs) c.in_ok-out.out) c.deref.ensures.value c.in_ok-out.ensures.out in
+    subst (λ (outs : List (Net × Net)). IsOut c.out_behind.new.b c.args.plan.now c.args.nets.now (length outs) c.in_ok-out.out) c.deref.ensures.value c.in_ok-out.ensures.right in
     let shared : IsSharedBy c.args.plan.now c.loop.outs.items (length c.loop.outs.items) c.in_ok-out.out.0 =
     subst (λ (outs : List (Net × Net)). IsSharedBy c.args.plan.now outs (length outs) c.in_ok-out.out.0) c.deref.ensures.value c.in_ok-out.ensures.shared in
     record {
@@ -36,5 +36,9 @@ loop-preserved c =
       share = shared_more c.args.plan.now c.loop.outs.items c.push.new.self.items c.in_ok-out.out more c.loop.invariant.share shared;
     }
 
-pub out_behind-requires-clause-tests : goal.out_behind-requires-clause-tests
-out_behind-requires-clause-tests c = tests_more c.loop.b c.args.b.now (size_of c.args.tests.now.size) c.args.tests.now c.loop.invariant.adds.includes c.requires.tests
+pub out_behind-requires-clause-next : goal.out_behind-requires-clause-next
+out_behind-requires-clause-next c = record {
+  tests = tests_more c.loop.b c.args.b.now (size_of c.args.tests.now.size) c.args.tests.now c.loop.invariant.adds.includes c.requires.tests;
+  within = search rules;
+  share = search rules;
+}

@@ -9,12 +9,10 @@ use Rattle.circuit.proofs.positions.test_leads.Goals as goal
 pub leads-requires : goal.leads-requires
 leads-requires c = record { tests = own_tests c.args.b.now (size_in c.args.plan.now) c.args.tests.now c.requires.tests }
 
-pub returns-clause-tests : goal.returns-clause-tests
-returns-clause-tests c = their_tests c.leads.new.b c.args.b.now (size_in c.args.plan.now) c.leads.new.self c.args.tests.now c.requires.tests c.in_ok-net.ensures.tests
-
-pub returns-clause-test : goal.returns-clause-test
-returns-clause-test c = pixel_test c.leads.new.b c.args.b.now c.args.plan.now c.args.f c.delay-delay.result c.args.tests.now (λ (z : Size). LeadOn z c.args.steps.now) c.in_ok-net.net c.delay-delay.ensures c.requires.tests c.in_ok-net.ensures.test c.in_ok-net.ensures.depth
-
-pub returns-clause-needed : goal.returns-clause-needed
-returns-clause-needed c =
-    needed_tests c.leads.new.b c.args.b.now c.leads.new.self c.args.tests.now c.args.plan.now c.args.f c.delay-delay.result c.args.steps.now None c.requires.tests.size_is c.delay-delay.ensures c.in_ok-net.ensures.registers c.in_ok-net.ensures.only
+pub returns : goal.returns
+returns c = record {
+  adds = c.in_ok-net.ensures.adds;
+  tests = their_tests c.leads.new.b c.args.b.now (size_in c.args.plan.now) c.leads.new.self c.args.tests.now c.requires.tests c.in_ok-net.ensures.tests;
+  needed = needed_tests c.leads.new.b c.args.b.now c.leads.new.self c.args.tests.now c.args.plan.now c.args.f c.delay-delay.result c.args.steps.now None c.requires.tests.size_is c.delay-delay.ensures c.in_ok-net.ensures.registers c.in_ok-net.ensures.only;
+  test = pixel_test c.leads.new.b c.args.b.now c.args.plan.now c.args.f c.delay-delay.result c.args.tests.now (λ (z : Size). LeadOn z c.args.steps.now) c.in_ok-net.net c.delay-delay.ensures c.requires.tests c.in_ok-net.ensures.test c.in_ok-net.ensures.depth;
+}

@@ -10,38 +10,28 @@ use Rattle.circuit.proofs.Registered.{needed_logic}
 use Rattle.circuit.specs.Registers.{AsksPart}
 use Rattle.circuit.proofs.positions.test_on.Goals as goal
 
-pub returns-in_ok-net-in-Always-clause-adds : goal.returns-in_ok-net-in-Always-clause-adds
-returns-in_ok-net-in-Always-clause-adds c = beside_logic c.constant_test.new.b c.args.b.now c.args.tests.now.counters c.in_ok-net-in-Always.ensures.logic
+pub returns-in_ok-net-in-Always : goal.returns-in_ok-net-in-Always
+returns-in_ok-net-in-Always c = record {
+  adds = beside_logic c.constant_test.new.b c.args.b.now c.args.tests.now.counters c.in_ok-net-in-Always.ensures.logic;
+  tests = tests_more c.constant_test.new.b c.args.b.now (size_in c.args.plan.now) c.args.tests.now c.in_ok-net-in-Always.ensures.logic.includes c.requires.tests;
+  needed = needed_logic c.constant_test.new.b c.args.b.now c.args.tests.now c.args.plan.now (AsksPart c.args.f c.args.steps.now) c.in_ok-net-in-Always.ensures.logic;
+  test = let plan = c.args.plan.now in
+      let all = c.leading.ensures.always.0 c.in-Always.is in
+      let here = subst (λ (w : ℕ). AllPass w plan.system.stencils.height (LeadOn (record { width = w; height = plan.system.stencils.height }) c.args.steps.now)) c.columns.ensures
+      (subst (λ (h : ℕ). AllPass c.columns.result h (LeadOn (record { width = c.columns.result; height = h }) c.args.steps.now)) c.rows.ensures all)
+      in
+      always_test c.constant_test.new.b c.args.b.now plan c.args.f _ c.in_ok-net-in-Always.net c.law.ensures c.in_ok-net-in-Always.ensures.test c.in_ok-net-in-Always.ensures.depth here;
+}
 
-pub returns-in_ok-net-in-Always-clause-tests : goal.returns-in_ok-net-in-Always-clause-tests
-returns-in_ok-net-in-Always-clause-tests c = tests_more c.constant_test.new.b c.args.b.now (size_in c.args.plan.now) c.args.tests.now c.in_ok-net-in-Always.ensures.logic.includes c.requires.tests
-
-pub returns-in_ok-net-in-Always-clause-test : goal.returns-in_ok-net-in-Always-clause-test
-returns-in_ok-net-in-Always-clause-test c =
-    let plan = c.args.plan.now in
-    let all = c.leading.ensures.always.0 c.in-Always.is in
-    let here = subst (λ (w : ℕ). AllPass w plan.system.stencils.height (LeadOn (record { width = w; height = plan.system.stencils.height }) c.args.steps.now)) c.columns.ensures
-    (subst (λ (h : ℕ). AllPass c.columns.result h (LeadOn (record { width = c.columns.result; height = h }) c.args.steps.now)) c.rows.ensures all)
-    in
-    always_test c.constant_test.new.b c.args.b.now plan c.args.f _ c.in_ok-net-in-Always.net c.law.ensures c.in_ok-net-in-Always.ensures.test c.in_ok-net-in-Always.ensures.depth here
-
-pub returns-in_ok-net-in-Never-clause-adds : goal.returns-in_ok-net-in-Never-clause-adds
-returns-in_ok-net-in-Never-clause-adds c = beside_logic c.constant_test-in-Never.new.b c.args.b.now c.args.tests.now.counters c.in_ok-net-in-Never.ensures.logic
-
-pub returns-in_ok-net-in-Never-clause-tests : goal.returns-in_ok-net-in-Never-clause-tests
-returns-in_ok-net-in-Never-clause-tests c = tests_more c.constant_test-in-Never.new.b c.args.b.now (size_in c.args.plan.now) c.args.tests.now c.in_ok-net-in-Never.ensures.logic.includes c.requires.tests
-
-pub returns-in_ok-net-in-Never-clause-test : goal.returns-in_ok-net-in-Never-clause-test
-returns-in_ok-net-in-Never-clause-test c =
-    let plan = c.args.plan.now in
-    let all = c.leading.ensures.never.0 c.in-Never.is in
-    let here = subst (λ (w : ℕ). NonePass w plan.system.stencils.height (LeadOn (record { width = w; height = plan.system.stencils.height }) c.args.steps.now)) c.columns.ensures
-    (subst (λ (h : ℕ). NonePass c.columns.result h (LeadOn (record { width = c.columns.result; height = h }) c.args.steps.now)) c.rows.ensures all)
-    in
-    never_test c.constant_test-in-Never.new.b c.args.b.now plan c.args.f _ c.in_ok-net-in-Never.net c.law.ensures c.in_ok-net-in-Never.ensures.test c.in_ok-net-in-Never.ensures.depth here
-
-pub returns-in_ok-net-in-Always-clause-needed : goal.returns-in_ok-net-in-Always-clause-needed
-returns-in_ok-net-in-Always-clause-needed c = needed_logic c.constant_test.new.b c.args.b.now c.args.tests.now c.args.plan.now (AsksPart c.args.f c.args.steps.now) c.in_ok-net-in-Always.ensures.logic
-
-pub returns-in_ok-net-in-Never-clause-needed : goal.returns-in_ok-net-in-Never-clause-needed
-returns-in_ok-net-in-Never-clause-needed c = needed_logic c.constant_test-in-Never.new.b c.args.b.now c.args.tests.now c.args.plan.now (AsksPart c.args.f c.args.steps.now) c.in_ok-net-in-Never.ensures.logic
+pub returns-in_ok-net-in-Never : goal.returns-in_ok-net-in-Never
+returns-in_ok-net-in-Never c = record {
+  adds = beside_logic c.constant_test-in-Never.new.b c.args.b.now c.args.tests.now.counters c.in_ok-net-in-Never.ensures.logic;
+  tests = tests_more c.constant_test-in-Never.new.b c.args.b.now (size_in c.args.plan.now) c.args.tests.now c.in_ok-net-in-Never.ensures.logic.includes c.requires.tests;
+  needed = needed_logic c.constant_test-in-Never.new.b c.args.b.now c.args.tests.now c.args.plan.now (AsksPart c.args.f c.args.steps.now) c.in_ok-net-in-Never.ensures.logic;
+  test = let plan = c.args.plan.now in
+      let all = c.leading.ensures.never.0 c.in-Never.is in
+      let here = subst (λ (w : ℕ). NonePass w plan.system.stencils.height (LeadOn (record { width = w; height = plan.system.stencils.height }) c.args.steps.now)) c.columns.ensures
+      (subst (λ (h : ℕ). NonePass c.columns.result h (LeadOn (record { width = c.columns.result; height = h }) c.args.steps.now)) c.rows.ensures all)
+      in
+      never_test c.constant_test-in-Never.new.b c.args.b.now plan c.args.f _ c.in_ok-net-in-Never.net c.law.ensures c.in_ok-net-in-Never.ensures.test c.in_ok-net-in-Never.ensures.depth here;
+}

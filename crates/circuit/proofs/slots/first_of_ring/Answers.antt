@@ -1,4 +1,4 @@
-use Rattle.std.proofs.Common.{◌+◌, ◌≡◌, length, take, arith}
+use Rattle.std.proofs.Common.{◌+◌, ◌≡◌, length, take, arith, rules}
 use Rattle.dk_base.specs.declared.stencils.Image.{Image}
 use Rattle.circuit.specs.Forms.{shapes_of, ring_shapes_of}
 use Rattle.circuit.proofs.Counting.{arrays_few, ring_few, next_kept_image, next_count}
@@ -11,13 +11,7 @@ pub ring_arrays-first-requires : goal.ring_arrays-first-requires
 ring_arrays-first-requires c = next_kept_image c.args.plan.now c.images.result.now c.loop-k.k c.args.image none c.images.ensures c.requires (omega (arith, c.loop-k-test.true, c.place-k-end.ensures))
 
 pub loop-k-preserved : goal.loop-k-preserved
-loop-k-preserved c =
-    next_count ring_shapes_of c.args.plan.now c.images.result.now c.loop-k.k c.args.image c.loop-k.first c.ring_arrays-first.result none c.images.ensures c.requires (omega (arith, c.loop-k-test.true, c.place-k-end.ensures)) c.loop-k.invariant c.ring_arrays-first.ensures
-
-pub returns-clause-few : goal.returns-clause-few
-returns-clause-few c =
-    let few = arrays_few ring_shapes_of c.args.plan.now c.loop-k.k c.law.ensures (λ g kept. ring_few c.args.plan.now g) in
-    omega (arith, few, c.loop-k.invariant)
+loop-k-preserved c = next_count ring_shapes_of c.args.plan.now c.images.result.now c.loop-k.k c.args.image c.loop-k.first c.ring_arrays-first.result none c.images.ensures c.requires (omega (arith, c.loop-k-test.true, c.place-k-end.ensures)) c.loop-k.invariant c.ring_arrays-first.ensures
 
 pub overflow_add-first : goal.overflow_add-first
 overflow_add-first c =
@@ -25,3 +19,10 @@ overflow_add-first c =
     next_count ring_shapes_of c.args.plan.now c.images.result.now c.loop-k.k c.args.image c.loop-k.first c.ring_arrays-first.result none c.images.ensures c.requires (omega (arith, c.loop-k-test.true, c.place-k-end.ensures)) c.loop-k.invariant c.ring_arrays-first.ensures in
     let few = arrays_few ring_shapes_of c.args.plan.now (c.loop-k.k + 1) c.law.ensures (λ g kept. ring_few c.args.plan.now g) in
     omega (arith, few, more)
+
+pub returns : goal.returns
+returns c = record {
+  first = search rules;
+  few = let few = arrays_few ring_shapes_of c.args.plan.now c.loop-k.k c.law.ensures (λ g kept. ring_few c.args.plan.now g) in
+      omega (arith, few, c.loop-k.invariant);
+}

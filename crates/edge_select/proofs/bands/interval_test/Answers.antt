@@ -2,15 +2,15 @@ use Rattle.std.proofs.Common.{[], ◌∷◌, arith}
 use Rattle.net_build.proofs.Logic.{logic_on}
 use Rattle.edge_select.proofs.Combining.{test_computes}
 use Rattle.edge_select.proofs.Inverting.{more_is}
+use Rattle.edge_select.proofs.Failing.{at_err}
 use Rattle.edge_select.proofs.bands.interval_test.Goals as goal
 
-pub returns-in_err-net-2-clause-logic : goal.returns-in_err-net-2-clause-logic
-returns-in_err-net-2-clause-logic c = logic_on _ _ _ c.within.ensures.logic c.test_net.ensures.logic
+pub returns : goal.returns
+returns c = record {
+  logic = logic_on _ _ _ c.in_ok-test.ensures.logic c.in_ok-net-2.ensures.logic;
+  test = more_is c.test_net.new.b c.args.b.now c.args.x c.in_ok-net-2.net c.args.side c.args.band.first c.args.band.last (λ e. c.if-band.false (omega (arith, e)))
+      (test_computes c.test_net.new.b c.within.new.b c.args.b.now (c.args.x ∷ []) _ c.in_ok-test.test c.in_ok-net-2.net c.in_ok-net-2.ensures.logic.includes c.in_ok-test.ensures.logic.includes c.in_ok-test.ensures.test c.in_ok-net-2.ensures.test);
+}
 
-pub returns-clause-logic : goal.returns-clause-logic
-returns-clause-logic c = logic_on _ _ _ c.within.ensures.logic c.test_net.ensures.logic
-
-pub returns-clause-test : goal.returns-clause-test
-returns-clause-test c =
-    more_is c.test_net.new.b c.args.b.now c.args.x c.in_ok-net-2.net c.args.side c.args.band.first c.args.band.last (λ e. c.if-band.false (omega (arith, e)))
-    (test_computes c.test_net.new.b c.within.new.b c.args.b.now (c.args.x ∷ []) _ c.in_ok-test.test c.in_ok-net-2.net c.test_net.ensures.logic.includes c.within.ensures.logic.includes c.in_ok-test.ensures.test c.in_ok-net-2.ensures.net)
+pub returns-in_err-net-2 : goal.returns-in_err-net-2
+returns-in_err-net-2 c = at_err _ _ c.from_residual-in_err-net-2.result c.from_residual-in_err-net-2.ensures.1 (logic_on _ _ _ c.in_ok-test.ensures.logic c.in_err-net-2.ensures)

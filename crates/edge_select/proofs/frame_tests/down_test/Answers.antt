@@ -1,4 +1,4 @@
-use Rattle.std.proofs.Common.{[], ◌∷◌, ℕ, ◌%◌, ◌/◌, ap, subst, ◌∙◌, ◌≡◌}
+use Rattle.std.proofs.Common.{[], ◌∷◌, ℕ, ◌%◌, ◌/◌, ap, subst, ◌∙◌, ◌≡◌, rules}
 use Rattle.dk_base.specs.FrameSizes.{size_of}
 use Rattle.edge_select.specs.declared.bands.Band.{Band}
 use Rattle.edge_select.specs.FrameTests.{IsRowTest}
@@ -14,42 +14,34 @@ use Rattle.edge_select.specs.Asked.{SeparatesRows}
 use Rattle.edge_select.proofs.Asked.{only_same, only_by, separates_rows}
 use Rattle.edge_select.proofs.frame_tests.down_test.Goals as goal
 
-pub returns-then-is_whole-clause-adds : goal.returns-then-is_whole-clause-adds
-returns-then-is_whole-clause-adds c = beside_none c.args.b.now c.args.tests.now.counters
+pub returns-then-is_whole : goal.returns-then-is_whole
+returns-then-is_whole c = record {
+  adds = beside_none c.args.b.now c.args.tests.now.counters;
+  registers = search rules;
+  only = only_same c.args.tests.now (λ t. ⊥) (SeparatesRows (size_of c.args.tests.now.size) c.args.delay (IsIn c.args.interval));
+  none = search rules;
+  tests = search rules;
+  test = search rules;
+  depth = search rules;
+}
 
-pub returns-clause-adds : goal.returns-clause-adds
-returns-clause-adds c = beside_on c.args.b.now c.row_test.new.b c.turned.new.b _ _ _ c.in_ok-test.ensures.adds (beside_logic _ _ _ c.turned.ensures.logic)
+pub returns : goal.returns
+returns c = record {
+  adds = beside_on c.args.b.now c.row_test.new.b c.turned.new.b _ _ _ c.in_ok-test.ensures.adds (beside_logic _ _ _ c.in_ok-net.ensures.logic);
+  registers = counts_logic c.turned.new.b c.row_test.new.b c.args.b.now c.row_test.new.tests c.args.tests.now c.in_ok-net.ensures.logic c.in_ok-test.ensures.registers;
+  only = let size = size_of c.args.tests.now.size in
+      only_by c.row_test.new.tests c.args.tests.now (λ t. ⊥) (λ t. (t.start ≡ c.args.delay % c.from-width.result) × (t.band ≡ c.interval_of.result)) (λ t. ⊥) (SeparatesRows size c.args.delay (IsIn c.args.interval)) (λ t no. no)
+      (λ t is. separates_rows size c.args.tests.now.size.sides.some_columns c.args.tests.now.size.sides.some_rows c.args.delay _ (IsIn c.args.interval) c.moved-band.result t
+      (ap (λ (w : ℕ). c.args.delay / w % c.from.result) c.from-width.ensures ∙ ap (λ (h : ℕ). c.args.delay / c.args.tests.now.size.width % h) c.from.ensures) c.moved-band.ensures.moved (is.0 ∙ ap (λ (w : ℕ). c.args.delay % w) c.from-width.ensures) (is.1 ∙ c.interval_of.ensures)) c.in_ok-test.ensures.only;
+  none = λ all. absurd (not_all c.args.tests.now.size.height c.args.interval c.is_whole.result c.args.tests.now.size.sides.some_rows c.is_whole.ensures.1 c.if-is_whole.false all);
+  tests = tests_more c.turned.new.b c.row_test.new.b (size_of c.args.tests.now.size) c.row_test.new.tests c.in_ok-net.ensures.logic.includes c.in_ok-test.ensures.tests;
+  test = let size = size_of c.args.tests.now.size in
+      let register = c.in_ok-test.test in
+      let is = subst (λ (z : Band). IsRowTest c.row_test.new.b size (record { start = c.args.delay % c.from-width.result; band = z; net = register })) c.interval_of.ensures c.in_ok-test.ensures.test in
+      row_frame_test c.row_test.new.b size c.args.delay c.args.tests.now.size.sides.some_columns c.args.tests.now.size.sides.some_rows c.turned.new.b (c.args.delay % c.from-width.result) c.moved-band.result register c.in_ok-net.net c.args.interval _ c.in_ok-net.ensures.logic.includes (ap (λ (w : ℕ). c.args.delay % w) c.from-width.ensures)
+      (ap (λ (w : ℕ). c.args.delay / w % c.from.result) c.from-width.ensures ∙ ap (λ (h : ℕ). c.args.delay / c.args.tests.now.size.width % h) c.from.ensures) c.moved-band.ensures.moved is c.in_ok-net.ensures.test;
+  depth = depth_over c.turned.new.b c.row_test.new.b 1 0 (c.in_ok-test.test ∷ []) c.in_ok-net.net c.in_ok-net.ensures.logic.includes (one_within c.row_test.new.b (is_control c.row_test.new.b.enable) 0 c.in_ok-test.test c.in_ok-test.ensures.test.register) c.in_ok-net.ensures.depth;
+}
 
-pub returns-clause-tests : goal.returns-clause-tests
-returns-clause-tests c = tests_more c.turned.new.b c.row_test.new.b (size_of c.args.tests.now.size) c.row_test.new.tests c.turned.ensures.logic.includes c.in_ok-test.ensures.tests
-
-pub returns-clause-test : goal.returns-clause-test
-returns-clause-test c =
-    let size = size_of c.args.tests.now.size in
-    let register = c.in_ok-test.test in
-    let is = subst (λ (z : Band). IsRowTest c.row_test.new.b size (record { start = c.args.delay % c.from-width.result; band = z; net = register })) c.interval_of.ensures c.in_ok-test.ensures.test in
-    row_frame_test c.row_test.new.b size c.args.delay c.args.tests.now.size.sides.some_columns c.args.tests.now.size.sides.some_rows c.turned.new.b (c.args.delay % c.from-width.result) c.moved-band.result register c.in_ok-net.net c.args.interval _ c.turned.ensures.logic.includes (ap (λ (w : ℕ). c.args.delay % w) c.from-width.ensures)
-    (ap (λ (w : ℕ). c.args.delay / w % c.from.result) c.from-width.ensures ∙ ap (λ (h : ℕ). c.args.delay / c.args.tests.now.size.width % h) c.from.ensures) c.moved-band.ensures.moved is c.in_ok-net.ensures.test
-
-pub returns-clause-depth : goal.returns-clause-depth
-returns-clause-depth c =
-    depth_over c.turned.new.b c.row_test.new.b 1 0 (c.in_ok-test.test ∷ []) c.in_ok-net.net c.turned.ensures.logic.includes (one_within c.row_test.new.b (is_control c.row_test.new.b.enable) 0 c.in_ok-test.test c.in_ok-test.ensures.test.register) c.in_ok-net.ensures.depth
-
-pub row_test-requires-clause-divides : goal.row_test-requires-clause-divides
-row_test-requires-clause-divides c = band_divides c.args.tests.now.size.height c.moved-band.result c.interval_of.result c.interval_of.ensures c.moved-band.ensures.band c.moved-band.ensures.last
-
-pub returns-clause-registers : goal.returns-clause-registers
-returns-clause-registers c = counts_logic c.turned.new.b c.row_test.new.b c.args.b.now c.row_test.new.tests c.args.tests.now c.turned.ensures.logic c.in_ok-test.ensures.registers
-
-pub returns-clause-none : goal.returns-clause-none
-returns-clause-none c all = absurd (not_all c.args.tests.now.size.height c.args.interval c.is_whole.result c.args.tests.now.size.sides.some_rows c.is_whole.ensures.1 c.if-is_whole.false all)
-
-pub returns-then-is_whole-clause-only : goal.returns-then-is_whole-clause-only
-returns-then-is_whole-clause-only c = only_same c.args.tests.now (λ t. ⊥) (SeparatesRows (size_of c.args.tests.now.size) c.args.delay (IsIn c.args.interval))
-
-pub returns-clause-only : goal.returns-clause-only
-returns-clause-only c =
-    let size = size_of c.args.tests.now.size in
-    only_by c.row_test.new.tests c.args.tests.now (λ t. ⊥) (λ t. (t.start ≡ c.args.delay % c.from-width.result) × (t.band ≡ c.interval_of.result)) (λ t. ⊥) (SeparatesRows size c.args.delay (IsIn c.args.interval)) (λ t no. no)
-    (λ t is. separates_rows size c.args.tests.now.size.sides.some_columns c.args.tests.now.size.sides.some_rows c.args.delay _ (IsIn c.args.interval) c.moved-band.result t
-    (ap (λ (w : ℕ). c.args.delay / w % c.from.result) c.from-width.ensures ∙ ap (λ (h : ℕ). c.args.delay / c.args.tests.now.size.width % h) c.from.ensures) c.moved-band.ensures.moved (is.0 ∙ ap (λ (w : ℕ). c.args.delay % w) c.from-width.ensures) (is.1 ∙ c.interval_of.ensures)) c.in_ok-test.ensures.only
+pub row_test-requires-clause-band : goal.row_test-requires-clause-band
+row_test-requires-clause-band c = record { band = search rules; divides = band_divides c.args.tests.now.size.height c.moved-band.result c.interval_of.result c.interval_of.ensures c.moved-band.ensures.band c.moved-band.ensures.last }

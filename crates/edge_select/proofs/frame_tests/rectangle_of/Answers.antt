@@ -20,41 +20,24 @@ both-requires-clause-one c =
     part_bit c.down_test.new.b size c.args.delay (λ x y. IsIn c.args.rectangle.across x) c.in_ok-across.across
     (part_test_more c.down_test.new.b c.across_test.new.b size c.args.delay (λ x y. IsIn c.args.rectangle.across x) c.in_ok-across.across c.in_ok-down.ensures.adds.includes c.in_ok-across.ensures.test)
 
-pub returns-clause-adds : goal.returns-clause-adds
-returns-clause-adds c =
-    beside_on c.args.b.now c.down_test.new.b c.test_net.new.b _ _ _ (beside_on _ _ _ _ _ _ c.in_ok-across.ensures.adds c.in_ok-down.ensures.adds) (beside_logic _ _ _ (logic_on _ _ _ c.both.ensures.logic c.test_net.ensures.logic))
-
-pub returns-clause-tests : goal.returns-clause-tests
-returns-clause-tests c =
-    let same = c.in_ok-across.ensures.tests.size_is in
-    tests_more c.test_net.new.b c.down_test.new.b (size_of c.args.tests.now.size) c.down_test.new.tests (includes_on _ _ _ c.both.ensures.logic.includes c.test_net.ensures.logic.includes)
-    (subst (λ (z : Size). AreFrameTests c.down_test.new.b z c.down_test.new.tests) same c.in_ok-down.ensures.tests)
-
-pub returns-clause-test : goal.returns-clause-test
-returns-clause-test c =
-    let size = size_of c.args.tests.now.size in
-    let same = c.in_ok-across.ensures.tests.size_is in
-    let r = c.args.rectangle in
-    rectangle_frame_test c.test_net.new.b c.both.new.b c.down_test.new.b size c.args.delay c.args.tests.now.size.sides.some_columns c.args.tests.now.size.sides.some_rows r c.in_ok-across.across c.in_ok-down.down c.in_ok-test.test c.in_ok-net.net c.both.ensures.logic.includes c.test_net.ensures.logic.includes
-    (part_test_more c.down_test.new.b c.across_test.new.b size c.args.delay (λ x y. IsIn c.args.rectangle.across x) c.in_ok-across.across c.in_ok-down.ensures.adds.includes c.in_ok-across.ensures.test)
-    (subst (λ (z : Size). IsPartTest c.down_test.new.b z c.args.delay (λ x y. IsIn c.args.rectangle.down y) c.in_ok-down.down) same c.in_ok-down.ensures.test) c.in_ok-test.ensures.test c.in_ok-net.ensures.net
-
-pub returns-clause-depth : goal.returns-clause-depth
-returns-clause-depth c =
-    rectangle_depth c.test_net.new.b c.both.new.b c.down_test.new.b c.in_ok-across.across c.in_ok-down.down c.in_ok-test.test c.in_ok-net.net c.both.ensures.logic.includes c.test_net.ensures.logic.includes
-    (part_depth_more c.down_test.new.b c.across_test.new.b c.in_ok-across.across c.in_ok-down.ensures.adds.includes c.in_ok-across.ensures.depth) c.in_ok-down.ensures.depth c.in_ok-test.ensures.depth c.in_ok-net.ensures.depth
-
-pub returns-clause-registers : goal.returns-clause-registers
-returns-clause-registers c =
-    counts_logic c.test_net.new.b c.down_test.new.b c.args.b.now c.down_test.new.tests c.args.tests.now (logic_on _ _ _ c.both.ensures.logic c.test_net.ensures.logic)
-    (counts_on c.args.b.now c.across_test.new.b c.down_test.new.b c.args.tests.now c.across_test.new.tests c.down_test.new.tests c.in_ok-across.ensures.registers c.in_ok-down.ensures.registers)
-
-pub returns-clause-none : goal.returns-clause-none
-returns-clause-none c all =
-    none_added c.down_test.new.tests c.across_test.new.tests c.args.tests.now c.args.rectangle c.args.tests.now.size.sides.some_columns c.args.tests.now.size.sides.some_rows c.in_ok-across.ensures.tests.size_is c.in_ok-across.ensures.none c.in_ok-down.ensures.none all
-
-pub returns-clause-only : goal.returns-clause-only
-returns-clause-only c =
-    let size = size_of c.args.tests.now.size in
-    only_rectangle size c.args.tests.now.size.sides.some_columns c.args.tests.now.size.sides.some_rows c.args.delay c.args.rectangle c.down_test.new.tests c.across_test.new.tests c.args.tests.now c.requires.rectangle c.in_ok-across.ensures.only
-    (subst (λ (z : Size). AddsOnly c.down_test.new.tests c.across_test.new.tests (λ t. ⊥) (SeparatesRows z c.args.delay (IsIn c.args.rectangle.down))) c.in_ok-across.ensures.tests.size_is c.in_ok-down.ensures.only)
+pub returns : goal.returns
+returns c = record {
+  adds = beside_on c.args.b.now c.down_test.new.b c.test_net.new.b _ _ _ (beside_on _ _ _ _ _ _ c.in_ok-across.ensures.adds c.in_ok-down.ensures.adds) (beside_logic _ _ _ (logic_on _ _ _ c.in_ok-test.ensures.logic c.in_ok-net.ensures.logic));
+  registers = counts_logic c.test_net.new.b c.down_test.new.b c.args.b.now c.down_test.new.tests c.args.tests.now (logic_on _ _ _ c.in_ok-test.ensures.logic c.in_ok-net.ensures.logic)
+      (counts_on c.args.b.now c.across_test.new.b c.down_test.new.b c.args.tests.now c.across_test.new.tests c.down_test.new.tests c.in_ok-across.ensures.registers c.in_ok-down.ensures.registers);
+  only = let size = size_of c.args.tests.now.size in
+      only_rectangle size c.args.tests.now.size.sides.some_columns c.args.tests.now.size.sides.some_rows c.args.delay c.args.rectangle c.down_test.new.tests c.across_test.new.tests c.args.tests.now c.requires.rectangle c.in_ok-across.ensures.only
+      (subst (λ (z : Size). AddsOnly c.down_test.new.tests c.across_test.new.tests (λ t. ⊥) (SeparatesRows z c.args.delay (IsIn c.args.rectangle.down))) c.in_ok-across.ensures.tests.size_is c.in_ok-down.ensures.only);
+  none = λ all. none_added c.down_test.new.tests c.across_test.new.tests c.args.tests.now c.args.rectangle c.args.tests.now.size.sides.some_columns c.args.tests.now.size.sides.some_rows c.in_ok-across.ensures.tests.size_is c.in_ok-across.ensures.none c.in_ok-down.ensures.none all;
+  tests = let same = c.in_ok-across.ensures.tests.size_is in
+      tests_more c.test_net.new.b c.down_test.new.b (size_of c.args.tests.now.size) c.down_test.new.tests (includes_on _ _ _ c.in_ok-test.ensures.logic.includes c.in_ok-net.ensures.logic.includes)
+      (subst (λ (z : Size). AreFrameTests c.down_test.new.b z c.down_test.new.tests) same c.in_ok-down.ensures.tests);
+  test = let size = size_of c.args.tests.now.size in
+      let same = c.in_ok-across.ensures.tests.size_is in
+      let r = c.args.rectangle in
+      rectangle_frame_test c.test_net.new.b c.both.new.b c.down_test.new.b size c.args.delay c.args.tests.now.size.sides.some_columns c.args.tests.now.size.sides.some_rows r c.in_ok-across.across c.in_ok-down.down c.in_ok-test.test c.in_ok-net.net c.in_ok-test.ensures.logic.includes c.in_ok-net.ensures.logic.includes
+      (part_test_more c.down_test.new.b c.across_test.new.b size c.args.delay (λ x y. IsIn c.args.rectangle.across x) c.in_ok-across.across c.in_ok-down.ensures.adds.includes c.in_ok-across.ensures.test)
+      (subst (λ (z : Size). IsPartTest c.down_test.new.b z c.args.delay (λ x y. IsIn c.args.rectangle.down y) c.in_ok-down.down) same c.in_ok-down.ensures.test) c.in_ok-test.ensures.test c.in_ok-net.ensures.test;
+  depth = rectangle_depth c.test_net.new.b c.both.new.b c.down_test.new.b c.in_ok-across.across c.in_ok-down.down c.in_ok-test.test c.in_ok-net.net c.in_ok-test.ensures.logic.includes c.in_ok-net.ensures.logic.includes
+      (part_depth_more c.down_test.new.b c.across_test.new.b c.in_ok-across.across c.in_ok-down.ensures.adds.includes c.in_ok-across.ensures.depth) c.in_ok-down.ensures.depth c.in_ok-test.ensures.depth c.in_ok-net.ensures.depth;
+}

@@ -1,4 +1,4 @@
-use Rattle.std.proofs.Common.{◌<◌, List, refl, Some, subst, sym, ◌≡◌}
+use Rattle.std.proofs.Common.{◌<◌, List, refl, Some, subst, sym, ◌≡◌, rules}
 use Rattle.dk_base.specs.Frames.{Size}
 use Rattle.dk_base.specs.FrameSizes.{size_of}
 use Rattle.edge_select.specs.declared.frame_tests.Test.{Test}
@@ -15,36 +15,32 @@ pub row_register-requires-clause-counters : goal.row_register-requires-clause-co
 row_register-requires-clause-counters c = own_size c.counters_of.new.b (size_of c.args.tests.now.size) c.in_ok-counters.counters c.in_ok-counters.ensures.counters
 
 pub row_register-requires-clause-band : goal.row_register-requires-clause-band
-row_register-requires-clause-band c = subst (λ (z : Size). IsBand z.height c.args.band) (sym c.in_ok-counters.ensures.counters.size_is) c.requires.band
+row_register-requires-clause-band c = subst (λ (z : Size). IsBand z.height c.args.band) (sym c.in_ok-counters.ensures.counters.size_is) c.requires.band.band
 
 pub row_register-requires-clause-start : goal.row_register-requires-clause-start
 row_register-requires-clause-start c = subst (λ (z : Size). c.args.start < z.width) (sym c.in_ok-counters.ensures.counters.size_is) c.requires.start
 
-pub returns-in-Some-clause-adds : goal.returns-in-Some-clause-adds
-returns-in-Some-clause-adds c = beside_none c.args.b.now c.args.tests.now.counters
+pub returns-in-Some : goal.returns-in-Some
+returns-in-Some c = record {
+  adds = beside_none c.args.b.now c.args.tests.now.counters;
+  registers = search rules;
+  only = only_same c.args.tests.now (λ t. ⊥) (λ t. (t.start ≡ c.args.start) × (t.band ≡ c.args.band));
+  tests = search rules;
+  test = search rules;
+}
 
-pub returns-clause-adds : goal.returns-clause-adds
-returns-clause-adds c =
-    beside_on c.args.b.now c.counters_of.new.b c.row_register.new.b c.args.tests.now.counters (Some c.in_ok-counters.counters) (Some c.in_ok-counters.counters) c.in_ok-counters.ensures.adds c.in_ok-net.ensures.adds
-
-pub returns-clause-registers : goal.returns-clause-registers
-returns-clause-registers c =
-    counts_row c.row_register.new.b c.counters_of.new.b c.args.b.now (record { size = c.args.tests.now.size; counters = Some c.in_ok-counters.counters; columns = c.args.tests.now.columns; rows = c.push.new.self }) c.args.tests.now c.in_ok-counters.counters (record { start = c.args.start; band = c.args.band; net = c.in_ok-net.net })
-    c.in_ok-counters.ensures.bits c.in_ok-net.ensures.bits refl refl c.in_ok-push.ensures.items
-
-pub returns-clause-tests : goal.returns-clause-tests
-returns-clause-tests c =
-    let size = size_of c.args.tests.now.size in
-    let t : Test = record { start = c.args.start; band = c.args.band; net = c.in_ok-net.net } in
-    with_row c.row_register.new.b size (record { size = c.args.tests.now.size; counters = Some c.in_ok-counters.counters; columns = c.args.tests.now.columns; rows = c.push.new.self }) c.args.tests.now c.in_ok-counters.counters t refl refl refl c.in_ok-push.ensures.items
-    (tests_more c.row_register.new.b c.args.b.now size c.args.tests.now (includes_on _ _ _ c.in_ok-counters.ensures.adds.includes c.in_ok-net.ensures.adds.includes) c.requires.tests)
-    (counters_more c.row_register.new.b c.counters_of.new.b size c.in_ok-counters.counters c.in_ok-net.ensures.adds.includes c.in_ok-counters.ensures.counters)
-    (subst (λ (z : Size). IsRowTest c.row_register.new.b z (record { start = c.args.start; band = c.args.band; net = c.in_ok-net.net })) c.in_ok-counters.ensures.counters.size_is c.in_ok-net.ensures.test) (record { start = c.requires.start; band = c.requires.divides })
-    (subst (λ (ts : List Test). HasNone ts c.args.start c.args.band) c.deref.ensures.value c.in_default.ensures.none)
-
-pub returns-in-Some-clause-only : goal.returns-in-Some-clause-only
-returns-in-Some-clause-only c = only_same c.args.tests.now (λ t. ⊥) (λ t. (t.start ≡ c.args.start) × (t.band ≡ c.args.band))
-
-pub returns-clause-only : goal.returns-clause-only
-returns-clause-only c =
-    only_row (record { size = c.args.tests.now.size; counters = Some c.in_ok-counters.counters; columns = c.args.tests.now.columns; rows = c.push.new.self }) c.args.tests.now (λ t. ⊥) (λ t. (t.start ≡ c.args.start) × (t.band ≡ c.args.band)) (record { start = c.args.start; band = c.args.band; net = c.in_ok-net.net }) refl c.in_ok-push.ensures.items (refl, refl)
+pub returns : goal.returns
+returns c = record {
+  adds = beside_on c.args.b.now c.counters_of.new.b c.row_register.new.b c.args.tests.now.counters (Some c.in_ok-counters.counters) (Some c.in_ok-counters.counters) c.in_ok-counters.ensures.adds c.in_ok-net.ensures.register.adds;
+  registers = counts_row c.row_register.new.b c.counters_of.new.b c.args.b.now (record { size = c.args.tests.now.size; counters = Some c.in_ok-counters.counters; columns = c.args.tests.now.columns; rows = c.push.new.self }) c.args.tests.now c.in_ok-counters.counters (record { start = c.args.start; band = c.args.band; net = c.in_ok-net.net })
+      c.in_ok-counters.ensures.bits c.in_ok-net.ensures.register.bits refl refl c.in_ok-push.ensures.items;
+  only = only_row (record { size = c.args.tests.now.size; counters = Some c.in_ok-counters.counters; columns = c.args.tests.now.columns; rows = c.push.new.self }) c.args.tests.now (λ t. ⊥) (λ t. (t.start ≡ c.args.start) × (t.band ≡ c.args.band)) (record { start = c.args.start; band = c.args.band; net = c.in_ok-net.net }) refl c.in_ok-push.ensures.items (refl, refl);
+  tests = let size = size_of c.args.tests.now.size in
+      let t : Test = record { start = c.args.start; band = c.args.band; net = c.in_ok-net.net } in
+      with_row c.row_register.new.b size (record { size = c.args.tests.now.size; counters = Some c.in_ok-counters.counters; columns = c.args.tests.now.columns; rows = c.push.new.self }) c.args.tests.now c.in_ok-counters.counters t refl refl refl c.in_ok-push.ensures.items
+      (tests_more c.row_register.new.b c.args.b.now size c.args.tests.now (includes_on _ _ _ c.in_ok-counters.ensures.adds.includes c.in_ok-net.ensures.register.adds.includes) c.requires.tests)
+      (counters_more c.row_register.new.b c.counters_of.new.b size c.in_ok-counters.counters c.in_ok-net.ensures.register.adds.includes c.in_ok-counters.ensures.counters)
+      (subst (λ (z : Size). IsRowTest c.row_register.new.b z (record { start = c.args.start; band = c.args.band; net = c.in_ok-net.net })) c.in_ok-counters.ensures.counters.size_is c.in_ok-net.ensures.test) (record { start = c.requires.start; band = c.requires.band.divides })
+      (subst (λ (ts : List Test). HasNone ts c.args.start c.args.band) c.deref.ensures.value c.in_default.ensures.none);
+  test = search rules;
+}

@@ -3,8 +3,9 @@ use Rattle.edge_select.proofs.Beside.{register_adds}
 use Rattle.edge_select.proofs.registers.register_of.Goals as goal
 
 pub returns : goal.returns
-returns c = record {
-  adds = register_adds c.args.b.now c.reg.new.self c.choice_of.new.b c.still_value.new.b c.set.new.self c.args.load c.args.first c.args.test c.in_ok-register.register c.in_ok-next.next c.in_ok-value.value c.in_ok-register.ensures.ok c.in_ok-register.ensures.number c.choice_of.ensures.logic c.still_value.ensures.logic c.set.ensures.update c.in_ok-next.ensures.net c.in_ok-value.ensures.net
-      c.in_ok-register.ensures.net c.in_ok-register.ensures.width c.set.ensures.edge (λ h. c.set.ensures.stops (c.still_value.ensures.logic.stops (c.choice_of.ensures.logic.stops (c.reg.ensures.stops h))))
-      (λ copies h is. c.set.ensures.control copies (c.still_value.ensures.logic.control copies (c.choice_of.ensures.logic.control copies (c.reg.ensures.control copies h))) (inr is));
-}
+returns c =
+    record {
+      adds = register_adds c.args.b.now c.reg.new.self c.choice_of.new.b c.still_value.new.b c.set.new.self c.args.load c.args.first c.args.test c.in_ok-register.register c.in_ok-next.next c.in_ok-value.value c.in_ok-register.ensures.ok c.in_ok-register.ensures.number c.in_ok-next.ensures.logic c.in_ok-value.ensures.logic c.set.ensures.update c.in_ok-next.ensures.test c.in_ok-value.ensures.test
+          c.in_ok-register.ensures.net c.in_ok-register.ensures.width c.set.ensures.edge (λ h. c.set.ensures.stops (c.in_ok-value.ensures.logic.stops (c.in_ok-next.ensures.logic.stops (c.reg.ensures.stops h))))
+          (λ copies h is. c.set.ensures.control copies (c.in_ok-value.ensures.logic.control copies (c.in_ok-next.ensures.logic.control copies (c.reg.ensures.control copies h))) (inr is));
+    }
