@@ -21,6 +21,7 @@ pub mod Taking
 pub mod Imaging
 pub mod Validity
 pub mod Splitting
+pub mod Dividing
 pub mod Forming
 pub mod Leaving
 pub mod Netted
