@@ -60,7 +60,7 @@ images_none test f xs k before over = ap (λ (l : List _). before ++ filter test
 head_in : {X : Type 0} (x : X) (xs : List X) → Contains (x ∷ xs) x
 head_in x xs = (0, let low : 0 < suc (length xs) = omega arith in low, refl)
 
-tail_in : {X : Type 0} (x : X) (xs : List X) (a : X) → Contains xs a → Contains (x ∷ xs) a
+pub tail_in : {X : Type 0} (x : X) (xs : List X) (a : X) → Contains xs a → Contains (x ∷ xs) a
 tail_in x xs a (k, low, is) = (suc k, omega (arith, low), is)
 
 pub filter_in : (least : ℕ) (all : List ℕ) (words : ℕ) → Contains (filter (nat_lt least) all) words → Contains all words × (least < words)
@@ -83,12 +83,12 @@ in_filter least (x ∷ all) words (suc k, low, is) over = by (nat_lt least x) (i
     by true has = tail_in x (filter (nat_lt least) all) words has
     by false has = has
 
-in_left : (xs ys : List ℕ) (a : ℕ) → Contains xs a → Contains (xs ++ ys) a
+pub in_left : (xs ys : List ℕ) (a : ℕ) → Contains xs a → Contains (xs ++ ys) a
 in_left [] ys a (k, low, is) = absurd (omega (arith, low))
 in_left (x ∷ xs) ys a (zero, low, is) = subst (Contains (x ∷ (xs ++ ys))) is (head_in x (xs ++ ys))
 in_left (x ∷ xs) ys a (suc k, low, is) = tail_in x (xs ++ ys) a (in_left xs ys a (k, omega (arith, low), is))
 
-in_right : (xs ys : List ℕ) (a : ℕ) → Contains ys a → Contains (xs ++ ys) a
+pub in_right : (xs ys : List ℕ) (a : ℕ) → Contains ys a → Contains (xs ++ ys) a
 in_right [] ys a has = has
 in_right (x ∷ xs) ys a has = tail_in x (xs ++ ys) a (in_right xs ys a has)
 
@@ -181,7 +181,7 @@ arrays_total least all words arrays (by_memory shortest over near is) =
 arrays_total least all words arrays (by_registers few little is) = ap total is ∙ total_ones words
 arrays_total least all words arrays (by_array few more is) = ap total is ∙ (let e : words + 0 ≡ words = omega arith in e)
 
-after_more : (low : ℕ) (one other : List ℕ) → ages_after low (one ++ other) ≡ ages_after low one ++ ages_after (low + total one) other
+pub after_more : (low : ℕ) (one other : List ℕ) → ages_after low (one ++ other) ≡ ages_after low one ++ ages_after (low + total one) other
 after_more low [] other = ap (λ (n : ℕ). ages_after n other) (let e : low ≡ low + 0 = omega arith in e)
 after_more low (x ∷ one) other =
     ap (λ (l : List ℕ). (low + x) ∷ l) (after_more (low + x) one other)

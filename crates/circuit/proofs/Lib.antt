@@ -22,6 +22,7 @@ pub mod Imaging
 pub mod Validity
 pub mod Splitting
 pub mod Dividing
+pub mod Divisions
 pub mod Forming
 pub mod Leaving
 pub mod Netted

@@ -9,6 +9,7 @@ use Rattle.circuit.specs.Divided.{all_segments, segments, AreDivided, AreLong, A
 use Rattle.circuit.proofs.Adding.{image_at}
 use Rattle.circuit.proofs.Building.{entry_kept}
 use Rattle.circuit.proofs.Dividing.{drop_here, none_left, in_all, lists_more}
+use Rattle.circuit.proofs.Divisions.{divided_taken}
 use Rattle.circuit.proofs.splits.finer_ages.Goals as goal
 
 abbrev none : Image
