@@ -21,6 +21,8 @@ pub mod Taking
 pub mod Imaging
 pub mod Validity
 pub mod Splitting
+pub mod Dividing
+pub mod Divisions
 pub mod Forming
 pub mod Leaving
 pub mod Netted

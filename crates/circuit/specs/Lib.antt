@@ -6,6 +6,7 @@ pub mod Taps
 pub mod Depths
 pub mod Reads
 pub mod Splits
+pub mod Divided
 pub mod Forms
 pub mod Images
 pub mod Behaviour
