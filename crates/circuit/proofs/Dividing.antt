@@ -25,9 +25,6 @@ none_left [] (suc k) l = refl
 none_left (x ∷ xs) zero l = absurd (omega (arith, l))
 none_left (x ∷ xs) (suc k) l = none_left xs k (omega (arith, l))
 
-not_lt : (a b : ℕ) → b ≤ a → nat_lt a b ≡ false
-not_lt a b h = grind arith
-
 -- the long segments, one after another
 pub long_more : (least low : ℕ) (ages : List ℕ) (k : ℕ) (before : List ℕ) → k < length ages → least < slice_index ages k - low
     → (before ++ (slice_index ages k - low) ∷ []) ++ filter (nat_lt least) (segments (slice_index ages k) (drop (k + 1) ages)) ≡ before ++ filter (nat_lt least) (segments low (drop k ages))
