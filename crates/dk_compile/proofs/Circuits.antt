@@ -1,5 +1,6 @@
 -- The module of a program as the circuit of a text, in both forms of its buffers.
-use Rattle.std.proofs.Common.{◌≡◌, ℕ, Bool, List, [], None, Some, refl}
+use Rattle.std.proofs.Common.{◌≡◌, ℕ, Bool, List, [], None, Some, refl, subst}
+use Rattle.std.proofs.lemmas.Option.{same_Some}
 use Rattle.wiring.specs.declared.netlist.Net.{Net}
 use Rattle.wiring.specs.Netlist.{Netlist}
 use Rattle.net_build.specs.Runs.{IsWhole, RunsOn}
@@ -7,6 +8,7 @@ use Rattle.pointwise_ir.specs.Programs.{Program}
 use Rattle.buffer_plan.specs.Plans.{Plan}
 use Rattle.line_buffer.proofs.Chaining.{no_copies}
 use Rattle.circuit.specs.Forms.{HasProperty, chain_form, block_form, shapes_of}
+use Rattle.circuit.specs.Divided.{AreChainsDivided}
 use Rattle.circuit.specs.Behaviour.{HasPorts, AreReadNets}
 use Rattle.circuit.specs.Nets.{AreComputed, IsApart}
 use Rattle.circuit.specs.Registers.{HasRegisters}
@@ -26,6 +28,7 @@ module _ (m : Netlist) (p : Program) (plan : Plan) (enable : Bool) where
     copied = is.copied;
     none = λ e. no_copies m is.copies m.arrays is.copied.widths;
     splits = [];
+    divided = λ least e. absurd (let f : ⊥ = cc in f);
     behaves = is.behaves;
     bits = is.bits;
     arrays = arrays;
@@ -38,9 +41,9 @@ module _ (m : Netlist) (p : Program) (plan : Plan) (enable : Bool) where
     registers = registers;
   }
 
-  pub block_circuit : (least : ℕ) (splits : List (List ℕ)) (nets reads : List Net) → HasPorts m p enable → IsWhole m m → RunsOn m → IsModuleOf m p plan (block_form least splits) nets → AreReadNets m p plan reads → m.arrays ≡ shapes_of (block_form least splits).shapes plan plan.system.stencils.images → HasProperty m (block_form least splits).property → AreComputed m p plan (block_form least splits) nets reads → IsApart m p plan (block_form least splits) nets → HasRegisters m p plan (block_form least splits).long → Drives m p plan →
+  pub block_circuit : (least : ℕ) (splits : List (List ℕ)) (nets reads : List Net) → HasPorts m p enable → IsWhole m m → RunsOn m → IsModuleOf m p plan (block_form least splits) nets → AreReadNets m p plan reads → m.arrays ≡ shapes_of (block_form least splits).shapes plan plan.system.stencils.images → HasProperty m (block_form least splits).property → AreComputed m p plan (block_form least splits) nets reads → IsApart m p plan (block_form least splits) nets → HasRegisters m p plan (block_form least splits).long → Drives m p plan → AreChainsDivided least plan splits →
       IsCircuitOf p plan enable (Some least) m nets reads
-  block_circuit least splits nets reads ports whole runs is reads_are arrays once computed apart registers drives = record {
+  block_circuit least splits nets reads ports whole runs is reads_are arrays once computed apart registers drives divided = record {
     ports = ports;
     whole = whole;
     runs = runs;
@@ -49,6 +52,7 @@ module _ (m : Netlist) (p : Program) (plan : Plan) (enable : Bool) where
     copied = is.copied;
     none = λ e. absurd (let f : ⊥ = cc in f);
     splits = splits;
+    divided = λ n e. subst (λ (k : ℕ). AreChainsDivided k plan splits) (same_Some least n e) divided;
     behaves = is.behaves;
     bits = is.bits;
     arrays = arrays;

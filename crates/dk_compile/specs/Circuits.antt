@@ -8,6 +8,7 @@ use Rattle.pointwise_ir.specs.Programs.{Program}
 use Rattle.buffer_plan.specs.Plans.{Plan, bits_of}
 use Rattle.line_buffer.specs.Indices.{IsReadAndPut, is_long, is_direct}
 use Rattle.circuit.specs.Forms.{Form, chain_form, block_form, shapes_of}
+use Rattle.circuit.specs.Divided.{AreChainsDivided}
 use Rattle.circuit.specs.Behaviour.{HasPorts, AreReadNets, Behaves}
 use Rattle.circuit.specs.Nets.{AreNetsOf, AreComputed, IsApart}
 use Rattle.circuit.specs.Modules.{CopyLongArrays, HasBits, ReadsDirectly}
@@ -33,6 +34,8 @@ pub record IsCircuitOf (p : Program) (plan : Plan) (enable : Bool) (block : Opti
   pub none : block ≡ None → copies ≡ []
   -- the ages that are proposed for the chain of each kept image, with a number
   pub splits : List (List ℕ)
+  -- they divide each segment of a chain into its arrays: one block memory for each segment of more than `block` words, and single words
+  pub divided : (least : ℕ) → block ≡ Some least → AreChainsDivided least plan splits
   -- and what it does over any clocks, with resets and held clocks at any place
   pub behaves : Behaves m p plan (form_with block splits).places copies nets
   -- the arrays have the plan's bits; besides them only copies hold what came in

@@ -1,6 +1,7 @@
-use Rattle.std.proofs.Common.{ℕ, Some, Option, sym, ap, subst}
+use Rattle.std.proofs.Common.{ℕ, Some, Option, sym, ap, subst, arith}
 use Rattle.std.specs.Prelude.{◌≤◌, IfSome}
 use Rattle.circuit.specs.Splits.{Splits}
+use Rattle.circuit.specs.Divided.{AreChainsDivided}
 use Rattle.dk_compile.specs.Circuits.{IsCircuitOf}
 use Rattle.dk_compile.proofs.Circuits.{chain_circuit, block_circuit}
 use Rattle.dk_compile.proofs.compiling.built.Goals as goal
@@ -23,4 +24,6 @@ returns-in_ok-made-in-Some-clause-circuit c =
     subst (λ (block : Option ℕ). IsCircuitOf c.args.ir.now c.args.plan.now c.args.options.enable block made.module.netlist made.nets.items made.reads.items) (sym c.in-Some.is)
     (subst (λ (least : ℕ). IsCircuitOf c.args.ir.now c.args.plan.now c.args.options.enable (Some least) made.module.netlist made.nets.items made.reads.items) (ap (λ (form : Splits). form.least) c.new-form.ensures)
     (block_circuit made.module.netlist c.args.ir.now c.args.plan.now c.args.options.enable c.new-form.result.least c.new-form.result.proposed made.nets.items made.reads.items is.ports is.whole is.runs is.circuit is.reads is.arrays is.property is.computed is.apart is.registers
-    (c.frame_drive_law.ensures made.module.netlist c.args.ir.now c.args.plan.now _ _ made.nets.items c.args.options.enable c.law.ensures is.ports is.whole is.runs is.circuit.behaves)))
+    (c.frame_drive_law.ensures made.module.netlist c.args.ir.now c.args.plan.now _ _ made.nets.items c.args.options.enable c.law.ensures is.ports is.whole is.runs is.circuit.behaves)
+    (subst (λ (form : Splits). AreChainsDivided form.least c.args.plan.now form.proposed) (sym c.new-form.ensures)
+    (c.in_ok-splits.ensures.taken (let two = new-form-requires c in omega (arith, two))))))
