@@ -1,6 +1,6 @@
 -- Used by private functions only.
 -- Marks on nets and arrays, while what the inputs feed is searched.
-use Rattle.std.specs.Prelude.{◌≡◌, ◌≢◌, ℕ, suc, ◌+◌, ◌<◌, ◌≤◌, Bool, true, false, ◌||◌, List, [], ◌∷◌, length, slice_index_or}
+use Rattle.std.specs.Prelude.{◌≡◌, ◌≢◌, ℕ, suc, ◌+◌, ◌<◌, ◌≤◌, Bool, true, false, ◌||◌, List, [], ◌∷◌, length, slice_get, slice_index_or, Some, All, MatchBool}
 use Rattle.wiring.specs.declared.netlist.Net.TheVariants.{Input, Output, Wire, Reg}
 use Rattle.wiring.specs.declared.netlist.Holder.{Holder}
 use Rattle.wiring.specs.declared.netlist.Holder.TheVariants.{OfNet, OfArray}
@@ -70,3 +70,15 @@ pub record IsOpen (d : Marks) (drive : Drive) (h : Holder) : Type 0 where
 
 abbrev pub IsClosed : Marks → Drive → Type 0
 IsClosed d drive = any_marked d drive.reads ≡ true → is_marked d drive.target ≡ true
+
+-- the drives of all of these are closed
+abbrev pub AreClosed : {X : Type 0} → Marks → (drive : X → Drive) → List X → Type 0
+AreClosed {X} d drive xs = All (λ (x : X). IsClosed d (drive x)) xs
+
+-- the drive of one of these is open, and drives h
+abbrev pub IsOpenAmong : {X : Type 0} → Marks → (drive : X → Drive) → List X → Holder → Type 0
+IsOpenAmong {X} d drive xs h = (k : ℕ) × (x : X) × (slice_get xs k ≡ Some x) × IsOpen d (drive x) h
+
+-- this test is whether it is open, by its own target
+abbrev pub TestsOpen : Bool → Marks → Drive → Type 0
+TestsOpen result d drive = MatchBool result (IsOpen d drive drive.target) (IsClosed d drive)

@@ -30,6 +30,10 @@ pub record IsSearch (assigns : List Assign) (marks : List Mark) (path : List Vis
   pub order_once : (p q k : ℕ) → slice_get order p ≡ Some k → slice_get order q ≡ Some k → p ≡ q
   pub behind : (p j k : ℕ) → slice_get order p ≡ Some k → Feeds assigns j k → (q : ℕ) × (q < p) × (slice_get order q ≡ Some j)
 
+-- the same of a search's own lists
+abbrev pub IsSearchOf : List Assign → Search → Type 0
+IsSearchOf assigns search = IsSearch assigns search.marks.items search.path.items search.order.items
+
 pub record Enters (old new : Search) (assign : ℕ) : Type 0 where
   pub marks : new.marks.items ≡ slice_set old.marks.items assign Open
   pub path : new.path.items ≡ old.path.items ++ (record { assign = assign; looked = 0 }) ∷ []

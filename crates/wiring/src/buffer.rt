@@ -10,7 +10,7 @@ ghost use Rattle.wiring.specs.declared.netlist.Net.TheVariants.{Input};
 ghost use Rattle.wiring.specs.Netlist.{netlist_of, first_din};
 ghost use Rattle.wiring.specs.Rules.{KeepsRules};
 ghost use Rattle.wiring.specs.BufferBits.{assign_drive, update_drive, drives, IsFed, IsBufferBits, array_bits as array_bits_of, chosen_bits as chosen_bits_of};
-ghost use Rattle.wiring.specs.Marks.{is_marked, HasMarks, IsSound, IsOpen, IsClosed, Spreads, gap};
+ghost use Rattle.wiring.specs.Marks.{is_marked, HasMarks, IsSound, AreClosed, IsClosed, IsOpenAmong, Spreads, gap};
 
 use crate::marks::{Marks, add_mark, is_open_assign, is_open_update, no_marks, target_of};
 use crate::netlist::{Assign, Holder, Net, Netlist, Shape, Update};
@@ -221,8 +221,8 @@ fn spread(
 }
 
 fn open_assign(marks: &Marks, assigns: &[Assign]) -> Option<Holder>
-    ensures none { IfNone result (All (λ (a : Assign). IsClosed marks.now (assign_drive a)) assigns.now) }
-    ensures some { IfSome result (λ h. (k : ℕ) × (a : Assign) × (slice_get assigns.now k ≡ Some a) × IsOpen marks.now (assign_drive a) h) }
+    ensures none { IfNone result (AreClosed marks.now assign_drive assigns.now) }
+    ensures some { IfSome result (IsOpenAmong marks.now assign_drive assigns.now) }
 {
     for assign in assigns {
         if is_open_assign(marks, assign) {
@@ -233,8 +233,8 @@ fn open_assign(marks: &Marks, assigns: &[Assign]) -> Option<Holder>
 }
 
 fn open_update(marks: &Marks, updates: &[Update]) -> Option<Holder>
-    ensures none { IfNone result (All (λ (u : Update). IsClosed marks.now (update_drive u)) updates.now) }
-    ensures some { IfSome result (λ h. (k : ℕ) × (u : Update) × (slice_get updates.now k ≡ Some u) × IsOpen marks.now (update_drive u) h) }
+    ensures none { IfNone result (AreClosed marks.now update_drive updates.now) }
+    ensures some { IfSome result (IsOpenAmong marks.now update_drive updates.now) }
 {
     for update in updates {
         if is_open_update(marks, update) {
@@ -264,7 +264,7 @@ fn close(marks: &mut Marks, wiring: &Netlist) -> bool
 fn close_updates(marks: &mut Marks, wiring: &Netlist) -> bool
     requires rules { KeepsRules (netlist_of wiring.now) }
     requires size { HasMarks (netlist_of wiring.now) marks.old }
-    requires assigns { All (λ (a : Assign). IsClosed marks.old (assign_drive a)) wiring.now.assigns.items }
+    requires assigns { AreClosed marks.old assign_drive wiring.now.assigns.items }
     ensures spreads { Spreads (netlist_of wiring.now) marks.old marks.new }
     ensures closed { result ≡ false → All (IsClosed marks.new) (drives (netlist_of wiring.now)) }
     ensures nearer { result ≡ true → gap marks.new < gap marks.old }
@@ -296,8 +296,8 @@ fn mark_din(marks: &mut Marks, wiring: &Netlist, number: usize)
 fn mark_dins(marks: &mut Marks, wiring: &Netlist, found: &mut Vec<Holder>) -> Result<(), AllocError>
     requires size { HasMarks (netlist_of wiring.now) marks.old }
     ensures spreads { Spreads (netlist_of wiring.now) marks.old marks.new }
-    ensures dins { OnOk result ((i : ℕ) → first_din (netlist_of wiring.now) ≤ i → i < length wiring.now.inputs.items
-        → is_marked marks.new (OfNet (Input i)) ≡ true) }
+    ensures dins { OnOk result ((i : ℕ) → first_din (netlist_of wiring.now) ≤ i
+        → i < length wiring.now.inputs.items → is_marked marks.new (OfNet (Input i)) ≡ true) }
 {
     let first = if wiring.enable { 2 } else { 1 };
     for i in first..wiring.inputs.len() {
@@ -312,7 +312,8 @@ fn fed_marks(alloc: Global, wiring: &Netlist) -> Result<Marks, AllocError>
     requires { KeepsRules (netlist_of wiring.now) }
     ensures size { IfOk result (HasMarks (netlist_of wiring.now)) }
     ensures sound { IfOk result (IsSound (netlist_of wiring.now)) }
-    ensures complete { IfOk result (λ d. (h : Holder) → IsFed (netlist_of wiring.now) h → is_marked d h ≡ true) }
+    ensures complete { IfOk result
+        (λ d. (h : Holder) → IsFed (netlist_of wiring.now) h → is_marked d h ≡ true) }
 {
     let readings = readings_of(alloc, wiring)?;
     let mut marks = no_marks(alloc, wiring)?;

@@ -128,8 +128,10 @@ fn updater(updaters: &Updaters, update: &Update) -> Option<usize>
 }
 
 fn note_updater(updaters: &mut Updaters, update: &Update, number: usize)
-    requires { IsStateTarget (length updaters.old.regs.items) (length updaters.old.arrays.items) (update_target update.now) }
-    ensures notes { Notes (updater_of updaters.old) (updater_of updaters.new) (update_target update.now) number }
+    requires { IsStateTarget (length updaters.old.regs.items)
+        (length updaters.old.arrays.items) (update_target update.now) }
+    ensures notes { Notes
+        (updater_of updaters.old) (updater_of updaters.new) (update_target update.now) number }
     ensures regs { length updaters.new.regs.items ≡ length updaters.old.regs.items }
     ensures arrays { length updaters.new.arrays.items ≡ length updaters.old.arrays.items }
 {

@@ -1,11 +1,11 @@
 // Marks on nets and arrays.
 
-ghost use Rattle.std.specs.Prelude.{◌≡◌, ℕ, false, replicate, IfOk, MatchBool};
+ghost use Rattle.std.specs.Prelude.{◌≡◌, false, replicate, IfOk};
 ghost use Rattle.wiring.specs.declared.netlist.Holder.{Holder};
 ghost use Rattle.wiring.specs.declared.netlist.Holder.TheVariants.{OfNet, OfArray};
 ghost use Rattle.wiring.specs.Netlist.{netlist_of, update_target};
 ghost use Rattle.wiring.specs.BufferBits.{atom_reads, right_reads, update_reads, assign_drive, update_drive};
-ghost use Rattle.wiring.specs.Marks.{is_marked, any_marked, HasMark, HasMarks, Adds, IsClosed, IsOpen};
+ghost use Rattle.wiring.specs.Marks.{is_marked, any_marked, HasMark, HasMarks, Adds, TestsOpen};
 
 use crate::netlist::{Assign, Holder, Net, Netlist, Update};
 use crate::right::{Atom, Right};
@@ -138,7 +138,7 @@ pub fn target_of(update: &Update) -> Holder
 
 // Whether an assign reads what has a mark, and its target has none.
 pub fn is_open_assign(marks: &Marks, assign: &Assign) -> bool
-    ensures { MatchBool result (IsOpen marks.now (assign_drive assign.now) (assign_drive assign.now).target) (IsClosed marks.now (assign_drive assign.now)) }
+    ensures { TestsOpen result marks.now (assign_drive assign.now) }
 {
     if marks.has(Holder::OfNet(assign.target)) {
         return false;
@@ -148,7 +148,7 @@ pub fn is_open_assign(marks: &Marks, assign: &Assign) -> bool
 
 // Whether an update reads what has a mark, and its target has none.
 pub fn is_open_update(marks: &Marks, update: &Update) -> bool
-    ensures { MatchBool result (IsOpen marks.now (update_drive update.now) (update_drive update.now).target) (IsClosed marks.now (update_drive update.now)) }
+    ensures { TestsOpen result marks.now (update_drive update.now) }
 {
     if marks.has(target_of(update)) {
         return false;

@@ -2,7 +2,7 @@
 
 ghost use Rattle.std.specs.Prelude.{◌≡◌, ◌≢◌, ℕ, ◌+◌, ◌<◌, ◌≤◌, ◌++◌, ◌∷◌, [], length, slice_get, slice_set, Some, None, All, OnOk, OnErr, IfOk, IfErr, vec_len};
 ghost use Rattle.wiring.specs.Order.{IsEvaluationOrder, reads_at, net_in, driver_at_of, IsCause};
-ghost use Rattle.wiring.specs.Moves.{IsSearch, Enters, Leaves, Looks, weight, KeepsMarks, DriverIs};
+ghost use Rattle.wiring.specs.Moves.{IsSearchOf, Enters, Leaves, Looks, weight, KeepsMarks, DriverIs};
 ghost use Rattle.wiring.specs.Tables.{IsTable};
 ghost use Rattle.wiring.specs.declared.order.Mark.TheVariants.{New, Open, Done};
 
@@ -156,10 +156,10 @@ fn look(search: &mut Search, top: usize, visit: Visit)
 
 // One move: a look at the next place of the last assign on the path, or its end.
 fn step(search: &mut Search, assigns: &[Assign], drivers: &Drivers) -> Result<(), OrderFault>
-    requires search { IsSearch assigns.now search.old.marks.items search.old.path.items search.old.order.items }
+    requires search { IsSearchOf assigns.now search.old }
     requires table { IsTable assigns.now drivers.now }
     requires path { 0 < vec_len search.old.path }
-    ensures search { OnOk result (IsSearch assigns.now search.new.marks.items search.new.path.items search.new.order.items) }
+    ensures search { OnOk result (IsSearchOf assigns.now search.new) }
     ensures nearer { OnOk result (weight search.new < weight search.old) }
     ensures marks { OnOk result (KeepsMarks search.old.marks.items search.new.marks.items) }
     ensures cycle { IfErr result (IsCause assigns.now) }
@@ -191,9 +191,9 @@ fn step(search: &mut Search, assigns: &[Assign], drivers: &Drivers) -> Result<()
 
 // Goes on until the path is empty.
 fn finish(search: &mut Search, assigns: &[Assign], drivers: &Drivers) -> Result<(), OrderFault>
-    requires search { IsSearch assigns.now search.old.marks.items search.old.path.items search.old.order.items }
+    requires search { IsSearchOf assigns.now search.old }
     requires table { IsTable assigns.now drivers.now }
-    ensures search { OnOk result (IsSearch assigns.now search.new.marks.items search.new.path.items search.new.order.items) }
+    ensures search { OnOk result (IsSearchOf assigns.now search.new) }
     ensures path { OnOk result (search.new.path.items ≡ []) }
     ensures marks { OnOk result (KeepsMarks search.old.marks.items search.new.marks.items) }
     ensures cycle { IfErr result (IsCause assigns.now) }
@@ -211,11 +211,11 @@ fn search_from(
     drivers: &Drivers,
     start: usize,
 ) -> Result<(), OrderFault>
-    requires search { IsSearch assigns.now search.old.marks.items search.old.path.items search.old.order.items }
+    requires search { IsSearchOf assigns.now search.old }
     requires table { IsTable assigns.now drivers.now }
     requires path { search.old.path.items ≡ [] }
     requires start { start < length assigns.now }
-    ensures search { OnOk result (IsSearch assigns.now search.new.marks.items search.new.path.items search.new.order.items) }
+    ensures search { OnOk result (IsSearchOf assigns.now search.new) }
     ensures path { OnOk result (search.new.path.items ≡ []) }
     ensures marks { OnOk result (KeepsMarks search.old.marks.items search.new.marks.items) }
     ensures visited { OnOk result (slice_get search.new.marks.items start ≢ Some New) }
