@@ -5,7 +5,7 @@ ghost use Rattle.dk_parser.specs.Tree as T;
 ghost use Rattle.dk_parser.specs.Tree.{Tree, tree_of, span_of, at_span};
 ghost use Rattle.dk_parser.specs.Words.{over};
 ghost use Rattle.dk_parser.specs.Depth.{depth, too_deep};
-ghost use Rattle.dk_parser.specs.Grown.{Stands};
+ghost use Rattle.dk_parser.specs.Grown.{Builds, Stands};
 
 use crate::tree::{Expr, ImageRead, Literal, Node, TypeWord};
 use dk_base::{Binary, MAX_SOURCE_DEPTH, Scaling, Span, Unary};
@@ -21,7 +21,8 @@ pub(crate) enum Built {
 
 // A tree that becomes an operand, or where it is too deep.
 fn operand(built: Built) -> Result<(Expr, usize), Span>
-    ensures stands { (e : Tree) → Stands built e → MatchResult result (λ x. (tree_of x.0 ≡ e) × (depth e ≡ x.1)) (λ s. too_deep e ≡ Some s) }
+    ensures stands { (e : Tree) → Stands built e
+        → MatchResult result (λ x. (tree_of x.0 ≡ e) × (depth e ≡ x.1)) (λ s. too_deep e ≡ Some s) }
     ensures shallow { IfOk result (λ x. x.1 ≤ MAX_SOURCE_DEPTH) }
 {
     match built {
@@ -42,7 +43,8 @@ pub(crate) fn binary(
     left: Built,
     right: Built,
 ) -> Result<Built, AllocError>
-    ensures { (l r : Tree) → Stands left l → Stands right r → IfOk result (λ b. Stands b (T.binary (over (span_of l) (span_of r)) operator l r)) }
+    ensures { (l r : Tree) → Stands left l → Stands right r
+        → Builds result (T.binary (over (span_of l) (span_of r)) operator l r) }
 {
     let (left, left_depth) = match operand(left) {
         Ok(found) => found,
@@ -68,7 +70,8 @@ pub(crate) fn pair(
     left: Built,
     right: Built,
 ) -> Result<Built, AllocError>
-    ensures { (l r : Tree) → Stands left l → Stands right r → IfOk result (λ b. Stands b (T.binary span operator l r)) }
+    ensures { (l r : Tree) → Stands left l → Stands right r
+        → Builds result (T.binary span operator l r) }
 {
     let (left, left_depth) = match operand(left) {
         Ok(found) => found,
@@ -88,7 +91,8 @@ pub(crate) fn unary(
     at: Span,
     body: Built,
 ) -> Result<Built, AllocError>
-    ensures { (e : Tree) → Stands body e → IfOk result (λ b. Stands b (T.unary (over at (span_of e)) operator e)) }
+    ensures { (e : Tree) → Stands body e
+        → Builds result (T.unary (over at (span_of e)) operator e) }
 {
     let (body, depth) = match operand(body) {
         Ok(found) => found,
@@ -108,7 +112,7 @@ pub(crate) fn unary(
 }
 
 pub(crate) fn absolute(alloc: Global, span: Span, body: Built) -> Result<Built, AllocError>
-    ensures { (e : Tree) → Stands body e → IfOk result (λ b. Stands b (T.unary span Unary.Abs e)) }
+    ensures { (e : Tree) → Stands body e → Builds result (T.unary span Unary.Abs e) }
 {
     let (body, depth) = match operand(body) {
         Ok(found) => found,
@@ -129,7 +133,8 @@ pub(crate) fn scaled(
     left: Built,
     amount: Literal,
 ) -> Result<Built, AllocError>
-    ensures { (e : Tree) → Stands left e → IfOk result (λ b. Stands b (T.scale (over (span_of e) amount.span) operator e amount)) }
+    ensures { (e : Tree) → Stands left e
+        → Builds result (T.scale (over (span_of e) amount.span) operator e amount) }
 {
     let (left, depth) = match operand(left) {
         Ok(found) => found,
@@ -149,7 +154,7 @@ pub(crate) fn scaled(
 }
 
 pub(crate) fn converted(alloc: Global, left: Built, to: TypeWord) -> Result<Built, AllocError>
-    ensures { (e : Tree) → Stands left e → IfOk result (λ b. Stands b (T.cast (over (span_of e) to.span) e to)) }
+    ensures { (e : Tree) → Stands left e → Builds result (T.cast (over (span_of e) to.span) e to) }
 {
     let (left, depth) = match operand(left) {
         Ok(found) => found,
@@ -174,7 +179,7 @@ pub(crate) fn saturated(
     body: Built,
     to: TypeWord,
 ) -> Result<Built, AllocError>
-    ensures { (e : Tree) → Stands body e → IfOk result (λ b. Stands b (T.sat span e to)) }
+    ensures { (e : Tree) → Stands body e → Builds result (T.sat span e to) }
 {
     let (body, depth) = match operand(body) {
         Ok(found) => found,
@@ -197,7 +202,8 @@ pub(crate) fn selected(
     left: Built,
     right: Built,
 ) -> Result<Built, AllocError>
-    ensures { (c l r : Tree) → Stands test c → Stands left l → Stands right r → IfOk result (λ b. Stands b (T.select span c l r)) }
+    ensures { (c l r : Tree) → Stands test c → Stands left l → Stands right r
+        → Builds result (T.select span c l r) }
 {
     let (test, test_depth) = match operand(test) {
         Ok(found) => found,
@@ -237,7 +243,9 @@ pub(crate) fn bracketed(span: Span, built: Built) -> Built
 
 // The tree of a program, or where it is too deep.
 pub(crate) fn finished(built: Built) -> Result<Expr, Span>
-    ensures { (e : Tree) → Stands built e → MatchResult result (λ x. (tree_of x ≡ e) × (depth e ≤ MAX_SOURCE_DEPTH)) (λ s. too_deep e ≡ Some s) }
+    ensures { (e : Tree) → Stands built e
+        → MatchResult result (λ x. (tree_of x ≡ e) × (depth e ≤ MAX_SOURCE_DEPTH))
+        (λ s. too_deep e ≡ Some s) }
 {
     match operand(built) {
         Ok((tree, _)) => Ok(tree),

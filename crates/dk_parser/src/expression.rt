@@ -1,11 +1,11 @@
 // Expressions.
 
-ghost use Rattle.std.specs.Prelude.{◌≡◌, ◌≢◌, ◌<◌, ◌≤◌, ◌+◌, suc, length, MatchResult, IfOk, None};
+ghost use Rattle.std.specs.Prelude.{◌≡◌, ◌≢◌, ◌<◌, ◌≤◌, ◌+◌, length, MatchResult, IfOk, None};
 ghost use Rattle.dk_base.specs.declared.operator.Binary.{Binary};
 ghost use Rattle.dk_parser.specs.declared.tree.Binding.TheVariants.{Stops};
 ghost use Rattle.dk_parser.specs.Marks.{mark_terminal};
 ghost use Rattle.dk_parser.specs.Tree.{Tree};
-ghost use Rattle.dk_parser.specs.Grown.{Stands, Grown, GrownOf, GrownClosed};
+ghost use Rattle.dk_parser.specs.Grown.{Grown, GrownClosed, ReadsAs, ReadsGrown, Stands};
 ghost use Rattle.dk_parser.specs.Grammar.{Closed, comparison, level, steps, primary, binding};
 ghost use Rattle.dk_parser.specs.Faults.{Halts, Ends, Suffix, Inside, Opens};
 
@@ -25,7 +25,7 @@ pub(crate) fn comparison_of<'a>(
     alloc: Global,
     tokens: &'a [Token],
 ) -> Result<(Built, &'a [Token]), Halt<'a>>
-    ensures parsed { MatchResult result (λ x. Grown comparison tokens.now x.0 x.1.now) (λ e. Halts (Ends comparison) tokens.now e) }
+    ensures parsed { ReadsAs (Grown comparison) (Ends comparison) tokens.now result }
 {
     let (left, rest) = level_of(alloc, 7, tokens)?;
     match classes::look_ahead(8, rest) {
@@ -50,7 +50,8 @@ fn level_of<'a>(
     tokens: &'a [Token],
 ) -> Result<(Built, &'a [Token]), Halt<'a>>
     requires { precedence ≤ 7 }
-    ensures parsed { MatchResult result (λ x. Grown (level precedence) tokens.now x.0 x.1.now) (λ e. Halts (Ends (level precedence)) tokens.now e) }
+    ensures parsed { ReadsAs (Grown (level precedence)) (Ends (level precedence))
+        tokens.now result }
 {
     if precedence == 0 {
         return unary_of(alloc, tokens);
@@ -69,7 +70,7 @@ fn steps_of<'a>(
 ) -> Result<(Built, &'a [Token]), Halt<'a>>
     requires { precedence < 7 }
     ensures parsed { (l : Tree) → Stands first l
-        → MatchResult result (λ x. Grown (steps precedence l) tokens.now x.0 x.1.now) (λ e. Halts (Ends (steps precedence l)) tokens.now e) }
+        → ReadsAs (Grown (steps precedence l)) (Ends (steps precedence l)) tokens.now result }
 {
     let mut left = first;
     let mut rest = tokens;
@@ -99,8 +100,7 @@ fn suffix<'a>(
     tokens: &'a [Token],
 ) -> Result<(Built, &'a [Token]), Halt<'a>>
     requires { (o : Binary) → step ≢ Step.Operand o }
-    ensures parsed { (l : Tree) → Stands left l
-        → MatchResult result (λ x. GrownOf (Suffix l step) tokens.now x.0 x.1.now) (λ e. Halts (Suffix l step) tokens.now e) }
+    ensures parsed { (l : Tree) → Stands left l → ReadsGrown (Suffix l step) tokens.now result }
     ensures fewer { IfOk result (λ x. length x.1.now < length tokens.now) }
 {
     let Some((first, kind, after)) = classes::front(tokens) else {
@@ -129,7 +129,7 @@ fn suffix<'a>(
 // A primary expression, with an operator before it or with none.
 #[cycle(expression)]
 fn unary_of<'a>(alloc: Global, tokens: &'a [Token]) -> Result<(Built, &'a [Token]), Halt<'a>>
-    ensures parsed { MatchResult result (λ x. Grown (level 0) tokens.now x.0 x.1.now) (λ e. Halts (Ends (level 0)) tokens.now e) }
+    ensures parsed { ReadsAs (Grown (level 0)) (Ends (level 0)) tokens.now result }
 {
     let Some((first, kind, after)) = classes::front(tokens) else {
         return Err(Halt::Faulty(tokens));
@@ -146,7 +146,7 @@ fn unary_of<'a>(alloc: Global, tokens: &'a [Token]) -> Result<(Built, &'a [Token
 // A primary expression, which no `edge` follows.
 #[cycle(expression)]
 fn primary_of<'a>(alloc: Global, tokens: &'a [Token]) -> Result<(Built, &'a [Token]), Halt<'a>>
-    ensures parsed { MatchResult result (λ x. Grown primary tokens.now x.0 x.1.now) (λ e. Halts (Ends primary) tokens.now e) }
+    ensures parsed { ReadsAs (Grown primary) (Ends primary) tokens.now result }
 {
     let Some((first, kind, after)) = classes::front(tokens) else {
         return Err(Halt::Faulty(tokens));
@@ -174,7 +174,7 @@ fn inside_of<'a>(
     tokens: &'a [Token],
 ) -> Result<(Built, &'a [Token]), Halt<'a>>
     requires { Opens start }
-    ensures parsed { MatchResult result (λ x. GrownOf (Inside start first) tokens.now x.0 x.1.now) (λ e. Halts (Inside start first) tokens.now e) }
+    ensures parsed { ReadsGrown (Inside start first) tokens.now result }
 {
     match start {
         Start::Constant(value) => Ok((built::number(first, value), tokens)),
@@ -193,8 +193,7 @@ fn bracket_of<'a>(
     first: Span,
     tokens: &'a [Token],
 ) -> Result<(Built, &'a [Token]), Halt<'a>>
-    ensures parsed { MatchResult result (λ x. GrownOf (Inside Start.Bracket first) tokens.now x.0 x.1.now)
-        (λ e. Halts (Inside Start.Bracket first) tokens.now e) }
+    ensures parsed { ReadsGrown (Inside Start.Bracket first) tokens.now result }
 {
     let (body, last, rest) = closed_by(alloc, Mark::Sign(Symbol::Close), tokens)?;
     let span = Span {
@@ -212,8 +211,7 @@ fn pair_of<'a>(
     first: Span,
     tokens: &'a [Token],
 ) -> Result<(Built, &'a [Token]), Halt<'a>>
-    ensures parsed { MatchResult result (λ x. GrownOf (Inside (Start.Pair operator) first) tokens.now x.0 x.1.now)
-        (λ e. Halts (Inside (Start.Pair operator) first) tokens.now e) }
+    ensures parsed { ReadsGrown (Inside (Start.Pair operator) first) tokens.now result }
 {
     let (_, inner) = single::mark(Mark::Sign(Symbol::Open), tokens)?;
     let (left, _, behind) = closed_by(alloc, Mark::Sign(Symbol::Comma), inner)?;
@@ -232,8 +230,7 @@ fn absolute_of<'a>(
     first: Span,
     tokens: &'a [Token],
 ) -> Result<(Built, &'a [Token]), Halt<'a>>
-    ensures parsed { MatchResult result (λ x. GrownOf (Inside Start.Absolute first) tokens.now x.0 x.1.now)
-        (λ e. Halts (Inside Start.Absolute first) tokens.now e) }
+    ensures parsed { ReadsGrown (Inside Start.Absolute first) tokens.now result }
 {
     let (_, inner) = single::mark(Mark::Sign(Symbol::Open), tokens)?;
     let (body, last, rest) = closed_by(alloc, Mark::Sign(Symbol::Close), inner)?;
@@ -251,8 +248,7 @@ fn saturate_of<'a>(
     first: Span,
     tokens: &'a [Token],
 ) -> Result<(Built, &'a [Token]), Halt<'a>>
-    ensures parsed { MatchResult result (λ x. GrownOf (Inside Start.Saturate first) tokens.now x.0 x.1.now)
-        (λ e. Halts (Inside Start.Saturate first) tokens.now e) }
+    ensures parsed { ReadsGrown (Inside Start.Saturate first) tokens.now result }
 {
     let (_, inner) = single::mark(Mark::Sign(Symbol::Open), tokens)?;
     let (body, _, behind) = closed_by(alloc, Mark::Sign(Symbol::Comma), inner)?;
@@ -273,8 +269,7 @@ fn choice_of<'a>(
     first: Span,
     tokens: &'a [Token],
 ) -> Result<(Built, &'a [Token]), Halt<'a>>
-    ensures parsed { MatchResult result (λ x. GrownOf (Inside Start.Choice first) tokens.now x.0 x.1.now)
-        (λ e. Halts (Inside Start.Choice first) tokens.now e) }
+    ensures parsed { ReadsGrown (Inside Start.Choice first) tokens.now result }
 {
     let (_, inner) = single::mark(Mark::Sign(Symbol::Open), tokens)?;
     let (test, _, middle) = closed_by(alloc, Mark::Sign(Symbol::Comma), inner)?;
@@ -296,7 +291,8 @@ pub(crate) fn closed_by<'a>(
     tokens: &'a [Token],
 ) -> Result<(Built, Span, &'a [Token]), Halt<'a>>
     requires { binding (mark_terminal mark) ≡ Stops }
-    ensures parsed { MatchResult result (λ x. GrownClosed mark tokens.now x.0 x.1 x.2.now) (λ e. Halts (Closed mark) tokens.now e) }
+    ensures parsed { MatchResult result (λ x. GrownClosed mark tokens.now x.0 x.1 x.2.now)
+        (λ e. Halts (Closed mark) tokens.now e) }
 {
     let (body, rest) = comparison_of(alloc, tokens)?;
     let Some((last, kind, after)) = classes::front(rest) else {

@@ -1,8 +1,8 @@
 // Inputs, definitions and outputs.
 
-ghost use Rattle.std.specs.Prelude.{◌≡◌, ◌≢◌, ◌<◌, ◌≤◌, ◌++◌, ◌∷◌, [], List, IfOk, MatchResult, Some, length};
+ghost use Rattle.std.specs.Prelude.{◌≡◌, ◌≢◌, ◌<◌, ◌≤◌, ◌++◌, ◌∷◌, [], List, IfOk, Some, length};
 ghost use Rattle.dk_grammar.specs.Reading.{One};
-ghost use Rattle.dk_parser.specs.Faults.{Halts};
+ghost use Rattle.dk_parser.specs.Grown.{ReadsAs, ReadsPhrase};
 ghost use Rattle.dk_parser.specs.Words.{Gives};
 ghost use Rattle.dk_parser.specs.Terminals.{terminal};
 ghost use Rattle.dk_parser.specs.Programs.{Definition, AnInput, AfterDeclares, Declared, Header, ADefinition, declares as declares_of};
@@ -50,7 +50,7 @@ pub(crate) struct Parts {
 
 // A name and its type.
 fn input<'a>(alloc: Global, tokens: &'a [Token]) -> Result<(Input, &'a [Token]), Halt<'a>>
-    ensures parsed { MatchResult result (λ x. AnInput tokens.now x.0 x.1.now) (λ e. Halts AnInput tokens.now e) }
+    ensures parsed { ReadsPhrase AnInput tokens.now result }
     ensures fewer { IfOk result (λ x. length x.1.now < length tokens.now) }
 {
     let (name, colon) = single::name(alloc, tokens)?;
@@ -71,8 +71,7 @@ fn declares(kind: Terminal) -> Option<bool>
 
 // Whether a type is declared.
 fn is_declared(tokens: &[Token]) -> Result<(bool, &[Token]), Halt>
-    ensures parsed { MatchResult result (λ x. One (Gives (λ t. declares_of (terminal t))) tokens.now x.0 x.1.now)
-        (λ e. Halts (One (Gives (λ t. declares_of (terminal t)))) tokens.now e) }
+    ensures parsed { ReadsPhrase (One (Gives (λ t. declares_of (terminal t)))) tokens.now result }
     ensures fewer { IfOk result (λ x. length x.1.now < length tokens.now) }
 {
     let Some((_, kind, after)) = classes::front(tokens) else {
@@ -85,7 +84,7 @@ fn is_declared(tokens: &[Token]) -> Result<(bool, &[Token]), Halt>
 }
 
 fn after_declares(is_there: bool, tokens: &[Token]) -> Result<(Option<TypeWord>, &[Token]), Halt>
-    ensures parsed { MatchResult result (λ x. AfterDeclares is_there tokens.now x.0 x.1.now) (λ e. Halts (AfterDeclares is_there) tokens.now e) }
+    ensures parsed { ReadsPhrase (AfterDeclares is_there) tokens.now result }
     ensures fewer { IfOk result (λ x. length x.1.now ≤ length tokens.now) }
 {
     match is_there {
@@ -100,7 +99,7 @@ fn after_declares(is_there: bool, tokens: &[Token]) -> Result<(Option<TypeWord>,
 
 // The declared type, where there is one, and the equals sign.
 fn declared(tokens: &[Token]) -> Result<(Option<TypeWord>, &[Token]), Halt>
-    ensures parsed { MatchResult result (λ x. Declared tokens.now x.0 x.1.now) (λ e. Halts Declared tokens.now e) }
+    ensures parsed { ReadsPhrase Declared tokens.now result }
     ensures fewer { IfOk result (λ x. length x.1.now < length tokens.now) }
 {
     let (is_there, middle) = is_declared(tokens)?;
@@ -110,7 +109,7 @@ fn declared(tokens: &[Token]) -> Result<(Option<TypeWord>, &[Token]), Halt>
 
 // The word `im` and the two coordinates.
 fn header(tokens: &[Token]) -> Result<(Span, &[Token]), Halt>
-    ensures parsed { MatchResult result (λ x. Header tokens.now x.0 x.1.now) (λ e. Halts Header tokens.now e) }
+    ensures parsed { ReadsPhrase Header tokens.now result }
     ensures fewer { IfOk result (λ x. length x.1.now < length tokens.now) }
 {
     let (_, open_at) = single::mark(Mark::Reserved(Keyword::Im), tokens)?;
@@ -128,7 +127,7 @@ fn definition<'a>(
     inline: bool,
     tokens: &'a [Token],
 ) -> Result<(Draft, &'a [Token]), Halt<'a>>
-    ensures parsed { MatchResult result (λ x. GrownDraft inline tokens.now x.0 x.1.now) (λ e. Halts (ADefinition inline) tokens.now e) }
+    ensures parsed { ReadsAs (GrownDraft inline) (ADefinition inline) tokens.now result }
 {
     let (name, declared_at) = single::name(alloc, tokens)?;
     let (declared, header_at) = declared(declared_at)?;
@@ -145,7 +144,8 @@ fn definition<'a>(
 
 // The items with an input more.
 fn with_input(parts: Parts, input: Input) -> Result<Parts, AllocError>
-    ensures { (vs : List Item) → Holds parts vs → IfOk result (λ p. Holds p (vs ++ (I.input input ∷ []))) }
+    ensures { (vs : List Item) → Holds parts vs
+        → IfOk result (λ p. Holds p (vs ++ (I.input input ∷ []))) }
 {
     let mut inputs = parts.inputs;
     inputs.push(input)?;
@@ -159,7 +159,8 @@ fn with_input(parts: Parts, input: Input) -> Result<Parts, AllocError>
 
 // The items with an output more.
 fn with_output(parts: Parts, output: Name) -> Result<Parts, AllocError>
-    ensures { (vs : List Item) → Holds parts vs → IfOk result (λ p. Holds p (vs ++ (I.output output ∷ []))) }
+    ensures { (vs : List Item) → Holds parts vs
+        → IfOk result (λ p. Holds p (vs ++ (I.output output ∷ []))) }
 {
     let mut outputs = parts.outputs;
     outputs.push(output)?;
@@ -173,7 +174,8 @@ fn with_output(parts: Parts, output: Name) -> Result<Parts, AllocError>
 
 // The items with a definition more.
 fn with_definition(parts: Parts, draft: Draft) -> Result<Parts, AllocError>
-    ensures { (vs : List Item) (d : Definition) → Holds parts vs → IsDraft draft d → IfOk result (λ p. Holds p (vs ++ (I.definition d ∷ []))) }
+    ensures { (vs : List Item) (d : Definition) → Holds parts vs → IsDraft draft d
+        → IfOk result (λ p. Holds p (vs ++ (I.definition d ∷ []))) }
 {
     match parts.deep {
         Some(_) => Ok(parts),
@@ -213,7 +215,7 @@ fn item<'a>(
 ) -> Result<(Parts, &'a [Token]), Halt<'a>>
     requires { lead ≢ Lead.End }
     ensures parsed { (vs : List Item) → Holds parts vs
-        → MatchResult result (λ x. GrownItem lead vs tokens.now x.0 x.1.now) (λ e. Halts (AnItem lead) tokens.now e) }
+        → ReadsAs (GrownItem lead vs) (AnItem lead) tokens.now result }
     ensures fewer { IfOk result (λ x. length x.1.now < length tokens.now) }
 {
     match lead {
@@ -285,8 +287,7 @@ fn allowed(before: Lead, found: Option<Lead>) -> Option<Lead>
 // The word that the next item begins with.
 fn lead_after(before: Lead, tokens: &[Token]) -> Result<(Lead, &[Token]), Halt>
     requires { before ≢ Lead.End }
-    ensures parsed { MatchResult result (λ x. One (λ t n. next before t ≡ Some n) tokens.now x.0 x.1.now)
-        (λ e. Halts (One (λ t n. next before t ≡ Some n)) tokens.now e) }
+    ensures parsed { ReadsPhrase (One (λ t n. next before t ≡ Some n)) tokens.now result }
     ensures fewer { IfOk result (λ x. length x.1.now < length tokens.now) }
 {
     let Some((_, kind, after)) = classes::front(tokens) else {
@@ -303,7 +304,7 @@ pub(crate) fn items<'a>(
     alloc: Global,
     tokens: &'a [Token],
 ) -> Result<(Parts, &'a [Token]), Halt<'a>>
-    ensures parsed { MatchResult result (λ x. GrownItems tokens.now x.0 x.1.now) (λ e. Halts (Items Lead.Input) tokens.now e) }
+    ensures parsed { ReadsAs GrownItems (Items Lead.Input) tokens.now result }
 {
     let mut parts = Parts {
         inputs: Vec::new(alloc),

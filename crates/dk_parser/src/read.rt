@@ -1,13 +1,12 @@
 // Reads of images.
 
-ghost use Rattle.std.specs.Prelude.{◌≡◌, ◌<◌, ◌≤◌, None, IfOk, MatchResult, length};
+ghost use Rattle.std.specs.Prelude.{◌≡◌, ◌<◌, ◌≤◌, None, IfOk, length};
 ghost use Rattle.dk_parser.specs.declared.tree.Start.TheVariants.{Image};
-ghost use Rattle.dk_parser.specs.Terminals.{terminal};
 ghost use Rattle.dk_parser.specs.Grammar.{primary, start};
 ghost use Rattle.dk_parser.specs.Marks.{mark_terminal};
 ghost use Rattle.dk_parser.specs.Words.{sign_of};
-ghost use Rattle.dk_parser.specs.Faults.{Halts, Ends};
-ghost use Rattle.dk_parser.specs.Grown.{Grown};
+ghost use Rattle.dk_parser.specs.Faults.{Ends};
+ghost use Rattle.dk_parser.specs.Grown.{Grown, ReadsAs, ReadsPair};
 ghost use Rattle.dk_parser.specs.Front.{Begins};
 ghost use Rattle.dk_parser.specs.Reads.{AfterTurn, Moved, Point, Unclamped};
 
@@ -28,7 +27,7 @@ fn after_turn<'a>(
     turn: Turn,
     tokens: &'a [Token],
 ) -> Result<(Option<Offset>, Span, &'a [Token]), Halt<'a>>
-    ensures parsed { MatchResult result (λ x. AfterTurn mark turn tokens.now (x.0, x.1) x.2.now) (λ e. Halts (AfterTurn mark turn) tokens.now e) }
+    ensures parsed { ReadsPair (AfterTurn mark turn) tokens.now result }
     ensures fewer { IfOk result (λ x. length x.2.now ≤ length tokens.now) }
 {
     match turn {
@@ -47,7 +46,7 @@ fn moved<'a>(
     tokens: &'a [Token],
 ) -> Result<(Option<Offset>, Span, &'a [Token]), Halt<'a>>
     requires { sign_of (mark_terminal mark) ≡ None }
-    ensures parsed { MatchResult result (λ x. Moved mark tokens.now (x.0, x.1) x.2.now) (λ e. Halts (Moved mark) tokens.now e) }
+    ensures parsed { ReadsPair (Moved mark) tokens.now result }
     ensures fewer { IfOk result (λ x. length x.2.now < length tokens.now) }
 {
     let (turn, rest) = single::sign_or(mark, tokens)?;
@@ -57,7 +56,7 @@ fn moved<'a>(
 
 // The point that an image is read at, in brackets.
 fn point<'a>(name: Name, tokens: &'a [Token]) -> Result<(Span, ImageRead, &'a [Token]), Halt<'a>>
-    ensures parsed { MatchResult result (λ x. Point name tokens.now (x.0, x.1) x.2.now) (λ e. Halts (Point name) tokens.now e) }
+    ensures parsed { ReadsPair (Point name) tokens.now result }
     ensures fewer { IfOk result (λ x. length x.2.now < length tokens.now) }
 {
     let (_, inner) = single::mark(Mark::Sign(Symbol::Open), tokens)?;
@@ -86,7 +85,7 @@ fn unclamped<'a>(
     alloc: Global,
     tokens: &'a [Token],
 ) -> Result<(Span, ImageRead, &'a [Token]), Halt<'a>>
-    ensures parsed { MatchResult result (λ x. Unclamped tokens.now (x.0, x.1) x.2.now) (λ e. Halts Unclamped tokens.now e) }
+    ensures parsed { ReadsPair Unclamped tokens.now result }
     ensures fewer { IfOk result (λ x. length x.2.now < length tokens.now) }
 {
     let (name, rest) = single::name(alloc, tokens)?;
@@ -100,7 +99,7 @@ pub(crate) fn read_of<'a>(
     tokens: &'a [Token],
 ) -> Result<(Built, &'a [Token]), Halt<'a>>
     requires { Begins Image tokens.now }
-    ensures parsed { MatchResult result (λ x. Grown primary tokens.now x.0 x.1.now) (λ e. Halts (Ends primary) tokens.now e) }
+    ensures parsed { ReadsAs (Grown primary) (Ends primary) tokens.now result }
 {
     let (span, read, rest) = unclamped(alloc, tokens)?;
     let Some(middle) = classes::edge(rest) else {

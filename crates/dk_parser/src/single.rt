@@ -1,8 +1,8 @@
 // Single tokens.
 
-ghost use Rattle.std.specs.Prelude.{◌≡◌, ◌<◌, None, IfOk, MatchOption, MatchResult, length};
+ghost use Rattle.std.specs.Prelude.{◌≡◌, ◌<◌, None, IfOk, length};
 ghost use Rattle.dk_grammar.specs.Reading.{One};
-ghost use Rattle.dk_parser.specs.Faults.{Halts};
+ghost use Rattle.dk_parser.specs.Grown.{ReadsPhrase};
 ghost use Rattle.dk_parser.specs.Marks.{mark_terminal};
 ghost use Rattle.dk_parser.specs.Reads.{Turns};
 ghost use Rattle.dk_parser.specs.Words.{AName, ALiteral, AType, Sign, literal_at as literal_at_of, type_at as type_at_of, spelling, sign_of};
@@ -25,7 +25,7 @@ pub(crate) enum Turn {
 
 // The span of this mark.
 pub(crate) fn mark<'a>(mark: Mark, tokens: &'a [Token]) -> Result<(Span, &'a [Token]), Halt<'a>>
-    ensures parsed { MatchResult result (λ x. Sign mark tokens.now x.0 x.1.now) (λ e. Halts (Sign mark) tokens.now e) }
+    ensures parsed { ReadsPhrase (Sign mark) tokens.now result }
     ensures fewer { IfOk result (λ x. length x.1.now < length tokens.now) }
 {
     let Some((first, kind, after)) = classes::front(tokens) else {
@@ -49,7 +49,7 @@ fn literal_at(kind: Terminal, span: Span) -> Option<Literal>
 
 // A number.
 pub(crate) fn literal(tokens: &[Token]) -> Result<(Literal, &[Token]), Halt>
-    ensures parsed { MatchResult result (λ x. ALiteral tokens.now x.0 x.1.now) (λ e. Halts ALiteral tokens.now e) }
+    ensures parsed { ReadsPhrase ALiteral tokens.now result }
     ensures fewer { IfOk result (λ x. length x.1.now < length tokens.now) }
 {
     let Some((first, kind, after)) = classes::front(tokens) else {
@@ -72,7 +72,7 @@ fn type_at(kind: Terminal, span: Span) -> Option<TypeWord>
 
 // A type word.
 pub(crate) fn type_word(tokens: &[Token]) -> Result<(TypeWord, &[Token]), Halt>
-    ensures parsed { MatchResult result (λ x. AType tokens.now x.0 x.1.now) (λ e. Halts AType tokens.now e) }
+    ensures parsed { ReadsPhrase AType tokens.now result }
     ensures fewer { IfOk result (λ x. length x.1.now < length tokens.now) }
 {
     let Some((first, kind, after)) = classes::front(tokens) else {
@@ -96,7 +96,7 @@ fn copied(alloc: Global, kind: &TokenKind) -> Result<Text, AllocError>
 
 // A name.
 pub(crate) fn name<'a>(alloc: Global, tokens: &'a [Token]) -> Result<(Name, &'a [Token]), Halt<'a>>
-    ensures parsed { MatchResult result (λ x. AName tokens.now x.0 x.1.now) (λ e. Halts AName tokens.now e) }
+    ensures parsed { ReadsPhrase AName tokens.now result }
     ensures fewer { IfOk result (λ x. length x.1.now < length tokens.now) }
 {
     let Some((first, kind, after)) = classes::front(tokens) else {
@@ -128,7 +128,7 @@ fn sign(terminal: Terminal) -> Option<bool>
 // A mark, or the sign of a number before it.
 pub(crate) fn sign_or<'a>(mark: Mark, tokens: &'a [Token]) -> Result<(Turn, &'a [Token]), Halt<'a>>
     requires { sign_of (mark_terminal mark) ≡ None }
-    ensures parsed { MatchResult result (λ x. One (Turns mark) tokens.now x.0 x.1.now) (λ e. Halts (One (Turns mark)) tokens.now e) }
+    ensures parsed { ReadsPhrase (One (Turns mark)) tokens.now result }
     ensures fewer { IfOk result (λ x. length x.1.now < length tokens.now) }
 {
     let Some((first, kind, after)) = classes::front(tokens) else {

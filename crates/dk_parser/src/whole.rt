@@ -45,7 +45,8 @@ fn program<'a>(
     alloc: Global,
     tokens: &'a [Token],
 ) -> Result<(Literal, Literal, Parts, &'a [Token]), Halt<'a>>
-    ensures parsed { MatchResult result (λ x. GrownProgram tokens.now x.0 x.1 x.2 x.3.now) (λ e. Halts AProgram tokens.now e) }
+    ensures parsed { MatchResult result (λ x. GrownProgram tokens.now x.0 x.1 x.2 x.3.now)
+        (λ e. Halts AProgram tokens.now e) }
 {
     let (_, width_at) = single::mark(Mark::Reserved(Keyword::Size), tokens)?;
     let (width, height_at) = single::literal(width_at)?;
@@ -57,7 +58,7 @@ fn program<'a>(
 
 fn judged(alloc: Global, tokens: &[Token]) -> Result<Program, ParseError>
     requires { IsEnded tokens.now }
-    ensures { MatchResult result (λ p. Accepted tokens.now (source_of p)) (λ fault. Faults tokens.now fault) }
+    ensures { MatchResult result (λ p. Accepted tokens.now (source_of p)) (Faults tokens.now) }
 {
     if let Some(span) = nest::overflow(tokens) {
         return Err(ParseError::Nest { span });
@@ -94,8 +95,13 @@ pub fn parse(alloc: Global, tokens: &[Token]) -> Result<Program, ParseError>
 /// Tokens that end as those of a text have exactly one program or one fault, except if out of memory. A type word is what the rules of the language state.
 pub fn one_judgement_law()
     ensures program { (ts : Tokens) (p q : Source) → Derives ts p → Derives ts q → p ≡ q }
-    ensures none_beside { (ts : Tokens) (p : Source) (f : ParseError) → Accepted ts p → Faults ts f → f ≡ ParseError.OutOfMemory }
-    ensures one_fault { (ts : Tokens) (f g : ParseError) → Faults ts f → Faults ts g → f ≢ ParseError.OutOfMemory → g ≢ ParseError.OutOfMemory → f ≡ g }
-    ensures some { (ts : Tokens) → IsEnded ts → ((p : Source) × Accepted ts p) ⊎ ((f : ParseError) × Faults ts f × (f ≢ ParseError.OutOfMemory)) }
-    ensures type_words { (bytes : List ℕ) (t : Ty) → terminal_of_word bytes ≡ Terminal.TypeWord t ↔ IsTypeWord bytes t }
+    ensures none_beside { (ts : Tokens) (p : Source) (f : ParseError) → Accepted ts p → Faults ts f
+        → f ≡ ParseError.OutOfMemory }
+    ensures one_fault { (ts : Tokens) (f g : ParseError) → Faults ts f → Faults ts g
+        → f ≢ ParseError.OutOfMemory → g ≢ ParseError.OutOfMemory → f ≡ g }
+    ensures some { (ts : Tokens) → IsEnded ts
+        → ((p : Source) × Accepted ts p)
+        ⊎ ((f : ParseError) × Faults ts f × (f ≢ ParseError.OutOfMemory)) }
+    ensures type_words { (bytes : List ℕ) (t : Ty) → terminal_of_word bytes ≡ Terminal.TypeWord t
+        ↔ IsTypeWord bytes t }
 {}

@@ -78,7 +78,8 @@ struct Operand {
 fn operand_of(source: &Expr, typed: TypedExpr) -> Operand
     requires { IsType typed.ty }
     ensures is_type { IsType result.typed.ty }
-    ensures is { (scope : Names) → IsTypedAs scope (tree_of source.now) typed → IsOperand scope (tree_of source.now) result }
+    ensures is { (scope : Names) → IsTypedAs scope (tree_of source.now) typed
+        → IsOperand scope (tree_of source.now) result }
 {
     Operand {
         span: source.span,
@@ -93,7 +94,8 @@ fn unary(
     operand: Operand,
 ) -> Result<TypedExpr, TypeError>
     requires { IsType operand.typed.ty }
-    ensures { (scope : Names) (a : T.Tree) → IsOperand scope a operand → Judged scope (T.unary span operator a) result }
+    ensures { (scope : Names) (a : T.Tree) → IsOperand scope a operand
+        → Judged scope (T.unary span operator a) result }
 {
     let ty = operators::unary_type(span, operator, operand.span, operand.typed.ty)?;
     let node = TypedNode::Unary(operator, Box::new(alloc, operand.typed)?);
@@ -109,7 +111,8 @@ fn binary(
 ) -> Result<TypedExpr, TypeError>
     requires left { IsType left.typed.ty }
     requires right { IsType right.typed.ty }
-    ensures { (scope : Names) (a b : T.Tree) → IsOperand scope a left → IsOperand scope b right → Judged scope (T.binary span operator a b) result }
+    ensures { (scope : Names) (a b : T.Tree) → IsOperand scope a left → IsOperand scope b right
+        → Judged scope (T.binary span operator a b) result }
 {
     let ty = operators::binary_type(
         span,
@@ -133,7 +136,8 @@ fn scale(
     by: Literal,
 ) -> Result<TypedExpr, TypeError>
     requires { IsType operand.ty }
-    ensures { (scope : Names) (a : T.Tree) → IsTypedAs scope a operand → Judged scope (T.scale span operator a by) result }
+    ensures { (scope : Names) (a : T.Tree) → IsTypedAs scope a operand
+        → Judged scope (T.scale span operator a by) result }
 {
     let ty = operators::scale_type(span, operator, operand.ty, by)?;
     let operand = Box::new(alloc, operand)?;
@@ -143,7 +147,8 @@ fn scale(
 
 fn cast(alloc: Global, span: Span, operand: TypedExpr, to: TypeWord) -> Result<TypedExpr, TypeError>
     requires { IsType to.ty }
-    ensures { (scope : Names) (a : T.Tree) → IsTypedAs scope a operand → Judged scope (T.cast span a to) result }
+    ensures { (scope : Names) (a : T.Tree) → IsTypedAs scope a operand
+        → Judged scope (T.cast span a to) result }
 {
     let node = TypedNode::Convert(Conversion::Cast, Box::new(alloc, operand)?);
     Ok(TypedExpr { ty: to.ty, node })
@@ -156,7 +161,8 @@ fn saturate(
     to: TypeWord,
 ) -> Result<TypedExpr, TypeError>
     requires { IsType to.ty }
-    ensures { (scope : Names) (a : T.Tree) → IsTypedAs scope a operand → Judged scope (T.sat span a to) result }
+    ensures { (scope : Names) (a : T.Tree) → IsTypedAs scope a operand
+        → Judged scope (T.sat span a to) result }
 {
     let node = TypedNode::Convert(Conversion::Saturate, Box::new(alloc, operand)?);
     Ok(TypedExpr { ty: to.ty, node })
@@ -171,7 +177,8 @@ fn select(
 ) -> Result<TypedExpr, TypeError>
     requires left { IsType left.ty }
     requires right { IsType right.ty }
-    ensures { (scope : Names) (c a b : T.Tree) → IsOperand scope c condition → IsTypedAs scope a left → IsTypedAs scope b right
+    ensures { (scope : Names) (c a b : T.Tree) → IsOperand scope c condition
+        → IsTypedAs scope a left → IsTypedAs scope b right
         → Judged scope (T.select span c a b) result }
 {
     let ty = operators::select_type(span, condition.span, condition.typed.ty, left.ty, right.ty)?;

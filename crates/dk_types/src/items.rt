@@ -25,7 +25,8 @@ use std::alloc::{AllocError, Global};
 
 // A side of the frame.
 pub(crate) fn side(number: Literal) -> Result<u32, TypeError>
-    ensures { MatchResult result (λ n. IsSide number.value × (n ≡ number.value)) (λ stop. ¬ IsSide number.value
+    ensures { MatchResult result (λ n. IsSide number.value × (n ≡ number.value))
+        (λ stop. ¬ IsSide number.value
         × (stop ≡ TypeError.Fault (at number.span TypeFaultKind.SizeRange))) }
 {
     if 1 <= number.value && number.value <= MAX_SIDE as u64 {
@@ -65,7 +66,8 @@ fn input<'a>(
     requires { length scope.old ≡ before }
     ensures { (is : List Input) (done : List TypedInput) → scope.old ≡ inputs_scope done
         → MatchResult result (λ t. IsInput is done item.now t
-        × (scope.new ≡ inputs_scope (done ++ t ∷ []))) (λ stop. Stops (InputFault is done item.now) stop) }
+        × (scope.new ≡ inputs_scope (done ++ t ∷ [])))
+        (λ stop. Stops (InputFault is done item.now) stop) }
 {
     if MAX_INPUTS <= before {
         return Err(fault(item.name.span, TypeFaultKind::TooManyInputs));
@@ -89,7 +91,9 @@ pub(crate) fn inputs<'a>(
     items: &'a [Input],
 ) -> Result<Vec<TypedInput>, TypeError>
     requires { scope.old ≡ [] }
-    ensures { MatchResult result (λ v. AreInputs items.now v.items × (scope.new ≡ inputs_scope v.items)) (λ stop. Stops (FaultyInputs items.now) stop) }
+    ensures { MatchResult result
+        (λ v. AreInputs items.now v.items × (scope.new ≡ inputs_scope v.items))
+        (λ stop. Stops (FaultyInputs items.now) stop) }
 {
     let mut done = Vec::new(alloc);
     for item in items {
@@ -111,7 +115,8 @@ fn declared_type(word: Option<TypeWord>) -> Option<Ty>
 // The type of an image whose body has the type `body`. None where the declared type does not take it.
 fn image_type(declared: Option<Ty>, body: Ty) -> Option<Ty>
     requires { IsType body }
-    ensures taken { MatchOption result (¬ Takes declared body) (λ t. Takes declared body × (t ≡ declared_or declared body)) }
+    ensures taken { MatchOption result (¬ Takes declared body)
+        (λ t. Takes declared body × (t ≡ declared_or declared body)) }
     ensures is_type { IfSome result (λ t. IsType t) }
 {
     match declared {
@@ -130,9 +135,11 @@ fn definition<'a>(
     requires few { length scope.old ≤ before + MAX_INPUTS }
     requires converts { ConvertsToTypes (tree_of item.now.body) }
     ensures one_more { OnOk result (length scope.new ≡ length scope.old + 1) }
-    ensures judged { (is : List TypedInput) (ds : List P.Definition) (done : List Definition) → length done ≡ before → scope.old ≡ scope_of is done
+    ensures judged { (is : List TypedInput) (ds : List P.Definition) (done : List Definition)
+        → length done ≡ before → scope.old ≡ scope_of is done
         → MatchResult result (λ t. IsDefinition is ds done (source_of item.now) (definition_of t)
-        × (scope.new ≡ scope_of is (done ++ definition_of t ∷ []))) (λ stop. Stops (DefinitionFault is ds done (source_of item.now)) stop) }
+        × (scope.new ≡ scope_of is (done ++ definition_of t ∷ [])))
+        (λ stop. Stops (DefinitionFault is ds done (source_of item.now)) stop) }
 {
     if MAX_DEFINITIONS <= before {
         return Err(fault(item.name.span, TypeFaultKind::TooManyImages));
@@ -163,8 +170,10 @@ pub(crate) fn definitions<'a>(
 ) -> Result<Vec<TypedDefinition>, TypeError>
     requires few { length scope.old ≤ MAX_INPUTS }
     requires converts { All (λ d. ConvertsToTypes (tree_of d.body)) items.now }
-    ensures { (is : List TypedInput) → scope.old ≡ inputs_scope is → MatchResult result (λ v. AreDefinitions is (sources_as items.now) (definitions_as v.items)
-        × (scope.new ≡ scope_of is (definitions_as v.items))) (λ stop. Stops (FaultyDefinitions is (sources_as items.now)) stop) }
+    ensures { (is : List TypedInput) → scope.old ≡ inputs_scope is
+        → MatchResult result (λ v. AreDefinitions is (sources_as items.now) (definitions_as v.items)
+        × (scope.new ≡ scope_of is (definitions_as v.items)))
+        (λ stop. Stops (FaultyDefinitions is (sources_as items.now)) stop) }
 {
     let mut done = Vec::new(alloc);
     for item in items {
@@ -183,7 +192,8 @@ fn place(names: &[Name], name: &[u8]) -> Option<usize>
 
 fn output(scope: &Scope, before: &[Name], item: &Name) -> Result<u32, TypeError>
     ensures { (done : List ℕ)
-        → MatchResult result (λ g. IsOutput scope.now before.now done item.now g) (λ stop. Stops (OutputFault scope.now before.now done item.now) stop) }
+        → MatchResult result (λ g. IsOutput scope.now before.now done item.now g)
+        (λ stop. Stops (OutputFault scope.now before.now done item.now) stop) }
 {
     if MAX_OUTPUTS <= before.len() {
         return Err(fault(item.span, TypeFaultKind::TooManyOutputs));
@@ -202,7 +212,8 @@ fn output(scope: &Scope, before: &[Name], item: &Name) -> Result<u32, TypeError>
 
 // The images that are outputs.
 pub(crate) fn outputs(alloc: Global, scope: &Scope, items: &[Name]) -> Result<Vec<u32>, TypeError>
-    ensures { MatchResult result (λ v. AreOutputs scope.now items.now v.items) (λ stop. Stops (FaultyOutputs scope.now items.now) stop) }
+    ensures { MatchResult result (λ v. AreOutputs scope.now items.now v.items)
+        (λ stop. Stops (FaultyOutputs scope.now items.now) stop) }
 {
     let mut done = Vec::new(alloc);
     for (k, item) in items.iter().enumerate() {

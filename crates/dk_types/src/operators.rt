@@ -26,7 +26,9 @@ pub(crate) fn unary_type(
     requires { IsType operand }
     ensures typed { IfOk result (λ t. type_of_unary operator operand ≡ Some t) }
     ensures is_type { IfOk result (λ t. IsType t) }
-    ensures faulty { IfErr result (λ stop. (scope : Scope) (a : Tree) (e : Typed) → HasType scope a e → type_of e ≡ operand → span_of a ≡ first
+    ensures faulty { IfErr result
+        (λ stop. (scope : Scope) (a : Tree) (e : Typed) → HasType scope a e → type_of e ≡ operand
+        → span_of a ≡ first
         → Stops (Faulty scope (T.unary span operator a)) stop) }
 {
     match operator.result_type(operand) {
@@ -47,8 +49,10 @@ fn signed_operand(
     second: Span,
     right: Ty,
 ) -> Option<TypeError>
-    ensures { MatchOption result (are_operands operator left right ≡ true) (λ stop. (scope : Scope) (a b : Tree) (e f : Typed) → HasType scope a e
-        → HasType scope b f → type_of e ≡ left → type_of f ≡ right → span_of a ≡ first → span_of b ≡ second
+    ensures { MatchOption result (are_operands operator left right ≡ true)
+        (λ stop. (scope : Scope) (a b : Tree) (e f : Typed) → HasType scope a e
+        → HasType scope b f → type_of e ≡ left → type_of f ≡ right → span_of a ≡ first
+        → span_of b ≡ second
         → Stops (Faulty scope (T.binary span operator a b)) stop) }
 {
     if !operator.is_bitwise() {
@@ -76,8 +80,11 @@ pub(crate) fn binary_type(
     requires right { IsType right }
     ensures typed { IfOk result (λ t. type_of_binary operator left right ≡ Some t) }
     ensures is_type { IfOk result (λ t. IsType t) }
-    ensures faulty { IfErr result (λ stop. (scope : Scope) (a b : Tree) (e f : Typed) → HasType scope a e → HasType scope b f → type_of e ≡ left
-        → type_of f ≡ right → span_of a ≡ first → span_of b ≡ second → Stops (Faulty scope (T.binary span operator a b)) stop) }
+    ensures faulty { IfErr result
+        (λ stop. (scope : Scope) (a b : Tree) (e f : Typed) → HasType scope a e → HasType scope b f
+        → type_of e ≡ left
+        → type_of f ≡ right → span_of a ≡ first → span_of b ≡ second
+        → Stops (Faulty scope (T.binary span operator a b)) stop) }
 {
     if let Some(stop) = signed_operand(span, operator, first, left, second, right) {
         return Err(stop);
@@ -98,7 +105,8 @@ pub(crate) fn scale_type(
     requires { IsType operand }
     ensures typed { IfOk result (λ t. type_of_scaling operator operand by.value ≡ Some t) }
     ensures is_type { IfOk result (λ t. IsType t) }
-    ensures faulty { IfErr result (λ stop. (scope : Scope) (a : Tree) (e : Typed) → HasType scope a e → type_of e ≡ operand
+    ensures faulty { IfErr result
+        (λ stop. (scope : Scope) (a : Tree) (e : Typed) → HasType scope a e → type_of e ≡ operand
         → Stops (Faulty scope (T.scale span operator a by)) stop) }
 {
     match operator.result_type(operand, by.value) {
@@ -134,8 +142,11 @@ pub(crate) fn select_type(
     requires right { IsType right }
     ensures typed { IfOk result (λ t. type_of_select condition left right ≡ Some t) }
     ensures is_type { IfOk result (λ t. IsType t) }
-    ensures faulty { IfErr result (λ stop. (scope : Scope) (c a b : Tree) (d e f : Typed) → HasType scope c d → HasType scope a e → HasType scope b f
-        → type_of d ≡ condition → type_of e ≡ left → type_of f ≡ right → span_of c ≡ first → Stops (Faulty scope (T.select span c a b)) stop) }
+    ensures faulty { IfErr result
+        (λ stop. (scope : Scope) (c a b : Tree) (d e f : Typed) → HasType scope c d
+        → HasType scope a e → HasType scope b f
+        → type_of d ≡ condition → type_of e ≡ left → type_of f ≡ right → span_of c ≡ first
+        → Stops (Faulty scope (T.select span c a b)) stop) }
 {
     match dk_base::select_type(condition, left, right) {
         Some(ty) => Ok(ty),

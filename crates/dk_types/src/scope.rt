@@ -41,7 +41,8 @@ impl<'a> Scope<'a> {
 
     // The number and the type of the image with this name.
     pub(crate) fn find(&self, name: &[u8]) -> Option<(u32, Ty)>
-        ensures { MatchOption result (IsUnknown self.now name.now) (λ x. IsFound self.now name.now x.0 x.1) }
+        ensures { MatchOption result (IsUnknown self.now name.now)
+            (λ x. IsFound self.now name.now x.0 x.1) }
     {
         let (index, _, ty) = self.images.get_full(name)?;
         Some((index as u32, *ty))
@@ -52,7 +53,9 @@ impl<'a> Scope<'a> {
         requires new { IsUnknown self.old name.now }
         requires room { length self.old < MAX_KEPT_IMAGES }
         requires is_type { IsType ty }
-        ensures { MatchResult result (λ _. self.new ≡ self.old ++ (record { name = name.now; ty = ty }) ∷ []) (λ stop. stop ≡ TypeError.OutOfMemory) }
+        ensures { MatchResult result
+            (λ _. self.new ≡ self.old ++ (record { name = name.now; ty = ty }) ∷ [])
+            (λ stop. stop ≡ TypeError.OutOfMemory) }
     {
         self.images.insert(name, ty)?;
         Ok(())

@@ -91,7 +91,8 @@ impl TypedProgram {
         definitions: Vec<TypedDefinition>,
         outputs: Vec<u32>,
     ) -> TypedProgram
-        requires { IsTyped (typing_of (parts_of size inputs.items definitions.items outputs.items)) }
+        requires { IsTyped
+            (typing_of (parts_of size inputs.items definitions.items outputs.items)) }
         ensures { result ≡ parts_of size inputs.items definitions.items outputs.items }
     {
         TypedProgram {

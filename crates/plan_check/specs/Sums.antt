@@ -104,6 +104,15 @@ pub record AddsAt (old new : List ℕ) (node amount : ℕ) : Type 0 where
   -- no sum grows by more than an amount
   pub most : (v : ℕ) → slice_index new v ≤ slice_index old v + 2 ^ 64
 
+-- The sums of some flow lines at the nodes of a system.
+pub record Tallies (s : System) (lines : List FlowLine) (into out : List ℕ) : Type 0 where
+  -- what they bring to each node
+  pub brought : (v : ℕ) → slice_index into v ≡ inflow_of s lines v
+  -- what they take from each node
+  pub taken : (v : ℕ) → slice_index out v ≡ outflow_of s lines v
+  -- they fit 128 bits
+  pub sums : AreSums s (2 ^ 100) into out
+
 -- A small cost times an amount.
 pub record IsPrice (cost : ℤ) (amount : ℕ) (price : ℤ) : Type 0 where
   -- it is the product

@@ -1,12 +1,12 @@
 // Whether the flow is balanced, and what it is worth.
 
-ghost use Rattle.std.specs.Prelude.{◌≡◌, ◌≤◌, ◌<◌, ◌^◌, ◌↔◌, ℕ, pos, neg_ℤ, ◌-ℤ◌, ◌≤ℤ◌, length, slice_index, Contains, IsTrue};
+ghost use Rattle.std.specs.Prelude.{◌≡◌, ◌≤◌, ◌<◌, ◌^◌, ◌↔◌, pos, neg_ℤ, ◌-ℤ◌, ◌≤ℤ◌, length, slice_index, Contains, IsTrue};
 ghost use Rattle.raster_delay.specs.Network.{worth};
 ghost use Rattle.raster_delay.specs.Delays.{IsReadAmong};
 ghost use Rattle.raster_delay.specs.Systems.{image_count, placed_reads, coefficient_in};
 ghost use Rattle.plan_check.specs.Flows.{amount_of};
 ghost use Rattle.plan_check.specs.Holding.{HasConstraint, FlowHolds};
-ghost use Rattle.plan_check.specs.Sums.{AddsAt, AreEven, AreFlowLines, AreSums, IsBounded, IsLimited, IsPrice, SumsHold, amounts, carriers, constraint_of, inflow_of, outflow_of};
+ghost use Rattle.plan_check.specs.Sums.{AddsAt, AreEven, AreFlowLines, AreSums, IsBounded, IsLimited, IsPrice, SumsHold, Tallies, amounts, carriers, constraint_of, inflow_of, outflow_of};
 
 use crate::lines::named;
 use raster_delay::{
@@ -118,9 +118,7 @@ fn add_line(system: &System, line: FlowLine, brought: &mut [u128], taken: &mut [
 fn tally(system: &System, flow: &[FlowLine], brought: &mut [u128], taken: &mut [u128])
     requires lines { AreFlowLines system.now flow.now }
     requires none { AreSums system.now 0 brought.old taken.old }
-    ensures brought { (v : ℕ) → slice_index brought.new v ≡ inflow_of system.now flow.now v }
-    ensures taken { (v : ℕ) → slice_index taken.new v ≡ outflow_of system.now flow.now v }
-    ensures sums { AreSums system.now (2 ^ 100) brought.new taken.new }
+    ensures { Tallies system.now flow.now brought.new taken.new }
 {
     for line in flow {
         add_line(system, *line, brought, taken);

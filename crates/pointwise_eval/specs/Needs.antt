@@ -1,5 +1,5 @@
 -- Until when the outputs need each image.
-use Rattle.std.specs.Prelude.{◌≡◌, ◌≢◌, ℕ, ◌+◌, ◌<◌, ◌≤◌, List, length, slice_index, slice_get, Some}
+use Rattle.std.specs.Prelude.{◌≡◌, ◌≢◌, ℕ, ◌+◌, ◌^◌, ◌<◌, ◌≤◌, List, length, slice_index, slice_get, Some}
 use Rattle.std.specs.List.{All}
 use Rattle.pointwise_ir.specs.Trees.{Tree, EachImage}
 use Rattle.pointwise_ir.specs.Programs.{Program, IsBody}
@@ -11,6 +11,13 @@ IsNeeded until n g = n < slice_index until g
 -- Notes of which none is taken back: each image is needed for at least as long as it was.
 abbrev pub KeepsNeeds : (old new : List ℕ) → Type 0
 KeepsNeeds old new = (n g : ℕ) → IsNeeded old n g → IsNeeded new n g
+
+-- A note on an image that is there, after so many images.
+pub record IsNote (count image behind : ℕ) : Type 0 where
+  -- the image is there
+  pub there : image < count
+  -- there are not too many images
+  pub few : behind < 2 ^ 62
 
 -- An image is noted as needed after so many images.
 pub record Notes (old new : List ℕ) (behind image : ℕ) : Type 0 where

@@ -8,6 +8,7 @@ use Rattle.pointwise_ir.specs.declared.expr.Edge.{Edge}
 use Rattle.pointwise_ir.specs.Trees.{Tree, EachImage}
 use Rattle.pointwise_ir.specs.Typing.{HasType}
 use Rattle.dk_base.specs.Types.{IsPort}
+use Rattle.dk_base.specs.Stencils.{IsDistinct}
 use Rattle.dk_base.specs.Frames.{framed, picture_at}
 use Rattle.pointwise_ir.specs.Meaning.{edged, value}
 use Rattle.pointwise_eval.specs.declared.plane.Plane.{Plane}
@@ -141,6 +142,13 @@ pub record DropsOne (image limit n : ℕ) (old new : List Plane) : Type 0 where
   -- else it may be gone
   pub here : AreSameOrGone (slice_get old image) (slice_get new image)
 
+-- The plane of one image is taken out.
+pub record Takes (image : ℕ) (old new : List Plane) (plane : Plane) : Type 0 where
+  -- it is that plane
+  pub taken : slice_get old image ≡ Some plane
+  -- the others stay
+  pub others : (g : ℕ) → g ≢ image → slice_get new g ≡ slice_get old g
+
 -- a sample: a number of at most 16 bits
 abbrev pub IsSample : ℤ → Type 0
 IsSample v = (pos 0 ≤ℤ v) × (v <ℤ pos 65536)
@@ -151,6 +159,13 @@ pub record IsOutputPlane (size : Size) (planes : List Plane) (g : ℕ) : Type 0 
   pub ty : Ty
   pub port : IsPort ty
   pub values : (x y : ℤ) → IsIn ty (picture_at (all_shown size planes) g x y)
+
+-- Whole planes of some images, each of them once, whose values are samples of outputs.
+pub record AreOutputPlanes (size : Size) (planes : List Plane) (numbers : List ℕ) : Type 0 where
+  -- the plane of each is such a plane
+  pub outputs : All (IsOutputPlane size planes) numbers
+  -- no two are the same
+  pub distinct : IsDistinct numbers
 
 -- each picture that the planes show is a known one, or 0 everywhere where the plane is gone or not there
 abbrev pub AreKnownOrGone : Size → List Picture → List Plane → Type 0

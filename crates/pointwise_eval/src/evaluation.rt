@@ -1,17 +1,16 @@
 // The pictures of all images that the outputs need, one after another.
 
-ghost use Rattle.std.specs.Prelude.{◌≡◌, ◌≢◌, ℕ, Some, slice_get, ◌<◌, ◌≤◌, pos, IfOk, IsTrue, length, map, take, unsigned_abs};
+ghost use Rattle.std.specs.Prelude.{◌≡◌, ◌<◌, ◌≤◌, pos, IfOk, IsTrue, length, map, take, unsigned_abs};
 ghost use Rattle.std.specs.List.{All};
 ghost use Rattle.dk_base.specs.declared.TheConstants.{MAX_INLINED_DEPTH};
 ghost use Rattle.dk_base.specs.FrameSizes.{size_of};
-ghost use Rattle.dk_base.specs.Stencils.{IsDistinct};
 ghost use Rattle.pointwise_ir.specs.Trees.{tree_of, depth_of};
 ghost use Rattle.pointwise_ir.specs.Programs.{all_types, types_of};
 ghost use Rattle.dk_base.specs.Frames.{picture_at};
 ghost use Rattle.pointwise_ir.specs.Meaning.{pictures};
 ghost use Rattle.value_ranges.specs.Images.{AreRangesOf};
 ghost use Rattle.pointwise_eval.specs.Needs.{AreNeeds, image_count};
-ghost use Rattle.pointwise_eval.specs.Planes.{AreSources, CanEvaluate, DropsOne, DropsSome, IsOutputPlane, IsPlaneOf, IsSample, ShowsNeeded, all_shown, values_of};
+ghost use Rattle.pointwise_eval.specs.Planes.{AreOutputPlanes, AreSources, CanEvaluate, DropsOne, DropsSome, IsPlaneOf, IsSample, ShowsNeeded, Takes, all_shown, values_of};
 ghost use Rattle.pointwise_eval.specs.Rounds.{AreFrames, round_of, frame_of, output_frames};
 
 use crate::need::{is_needed, needs};
@@ -234,8 +233,7 @@ fn output_frame(alloc: Global, size: FrameSize, plane: Plane<'_>) -> Result<Fram
 // Takes out the plane of an image, which is gone from then on.
 fn take_plane<'a>(planes: &mut [Plane<'a>], image: u32) -> Plane<'a>
     requires { image < length planes.old }
-    ensures taken { slice_get planes.old image ≡ Some result }
-    ensures others { (g : ℕ) → g ≢ image → slice_get planes.new g ≡ slice_get planes.old g }
+    ensures { Takes image planes.old planes.new result }
 {
     mem::replace(&mut planes[image as usize], Plane::Gone)
 }
@@ -247,8 +245,7 @@ fn frames_of_outputs(
     outputs: &[u32],
     planes: &mut [Plane<'_>],
 ) -> Result<Vec<Frame>, OutOfMemory>
-    requires outputs { All (IsOutputPlane (size_of size) planes.old) outputs.now }
-    requires distinct { IsDistinct outputs.now }
+    requires { AreOutputPlanes (size_of size) planes.old outputs.now }
     ensures { IfOk result (λ frames. frames.items
         ≡ map (λ g. frame_of (size_of size) (picture_at (all_shown (size_of size) planes.old) g))
         outputs.now) }

@@ -3,7 +3,7 @@
 ghost use Rattle.std.specs.Prelude.{◌≡◌, ℕ, ◌+◌, ◌^◌, ◌<◌, ◌↔◌, IfOk, IsTrue, Some, length, map, slice_get};
 ghost use Rattle.std.specs.List.{All};
 ghost use Rattle.pointwise_ir.specs.Trees.{Tree, tree_of, EachImage};
-ghost use Rattle.pointwise_eval.specs.Needs.{AreNeeds, IsNeeded, Notes, NotesBodies, NotesReads, image_count};
+ghost use Rattle.pointwise_eval.specs.Needs.{AreNeeds, IsNeeded, IsNote, Notes, NotesBodies, NotesReads, image_count};
 
 use dk_base::OutOfMemory;
 use pointwise_ir::{Definition, Expr, Program};
@@ -11,8 +11,7 @@ use std::alloc::Global;
 
 // Notes that an image is needed after this many images.
 fn need(until: &mut [usize], image: usize, behind: usize)
-    requires there { image < length until.old }
-    requires few { behind < 2 ^ 62 }
+    requires { IsNote (length until.old) image behind }
     ensures { Notes until.old until.new behind image }
 {
     if until[image] <= behind {
@@ -58,8 +57,7 @@ fn mark_outputs(outputs: &[u32], until: &mut [usize], behind: usize)
 
 // Whether the image of this number is needed after itself.
 pub fn is_needed(until: &[usize], number: usize) -> bool
-    requires there { number < length until.now }
-    requires few { number < 2 ^ 62 }
+    requires { IsNote (length until.now) number number }
     ensures { IsTrue result ↔ IsNeeded until.now (number + 1) number }
 {
     until[number] > number + 1

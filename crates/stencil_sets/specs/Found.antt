@@ -1,6 +1,6 @@
 -- Used by private functions only.
 -- Live reads as they are found, one after another in order.
-use Rattle.std.specs.Prelude.{◌≡◌, ℕ, ◌+◌, ◌*◌, ◌≤◌, ℤ, ◌≤ℤ◌, ◌<ℤ◌, ◌⊎◌, ◌↔◌, Contains, List, [], ◌∷◌, length, All, unsigned_abs, Result, OnOk, IfOk, IfErr}
+use Rattle.std.specs.Prelude.{◌≡◌, ℕ, ◌+◌, ◌*◌, ◌≤◌, ℤ, ◌≤ℤ◌, ◌<ℤ◌, ◌⊎◌, ◌↔◌, Contains, List, [], ◌∷◌, ◌++◌, length, All, unsigned_abs, Result, OnOk, OnErr, IfOk, IfErr}
 use Rattle.dk_base.specs.declared.TheConstants.{MAX_SIDE, MAX_COUNTED_READS}
 use Rattle.dk_base.specs.declared.stencils.LiveRead.{LiveRead}
 use Rattle.dk_base.specs.Stencils.{IsBefore, AreInOrder}
@@ -139,6 +139,17 @@ pub record IsPartEnd (reads : List LiveRead) (f g : ℕ) (rect : Rect) (row from
   pub before : AllBefore reads (the f g end row)
   -- nothing of the rectangle's row is left
   pub behind : IsBehind rect row from end
+
+-- One read is added to those that are found.
+pub record AddsRead {T : Type 0} (old new : List LiveRead) (read : LiveRead) (result : Result T Halt) : Type 0 where
+  -- all are in order, also where it is not added
+  pub order : AreInOrder new
+  -- it is the last
+  pub items : OnOk result (new ≡ old ++ read ∷ [])
+  -- it is not added only where there are too many, or no memory
+  pub stopped : IfErr result (λ halt. Stopped halt new)
+  -- and then all stays
+  pub same : OnErr result (new ≡ old)
 
 -- A function adds the reads of a kind to those that are found. Where it does not end early, `next` is so of its value.
 pub record Finds {T : Type 0} (old new : List LiveRead) (kind : (f g : ℕ) → (dx dy : ℤ) → Type 0) (result : Result T Halt) (next : T → Type 0) : Type 0 where

@@ -25,6 +25,13 @@ pub record AreKeptOf (p : Program) (xs : List Image) : Type 0 where
   -- they have the form of kept images, of which the first are the inputs
   pub form : AreKeptImages (length p.inputs) xs
 
+-- The outputs and the kept images of a program, with their widths.
+pub record AreOutputsAndKept (p : Program) (numbers : List ℕ) (xs : List Image) : Type 0 where
+  -- the outputs
+  pub outputs : numbers ≡ p.outputs
+  -- the kept images
+  pub kept : AreKeptOf p xs
+
 -- these are marked too, where they are there, and no others
 pub record MarksMore (old new : List Bool) (P : ℕ → Type 0) : Type 0 where
   pub length_stays : length new ≡ length old

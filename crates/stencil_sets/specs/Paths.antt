@@ -1,6 +1,6 @@
 -- Used by private functions only.
 -- What an expression reads at the ends of paths, and in a frame.
-use Rattle.std.specs.Prelude.{◌≡◌, ℕ, ◌<◌, ℤ, ◌+ℤ◌, ◌⊎◌, IsTrue, List, [], ◌∷◌}
+use Rattle.std.specs.Prelude.{◌≡◌, ℕ, ◌<◌, ℤ, ◌+ℤ◌, ◌⊎◌, ◌↔◌, IsTrue, All, OnOk, Result, List, [], ◌∷◌}
 use Rattle.dk_base.specs.Frames.{Size, in_frame}
 use Rattle.pointwise_ir.specs.Trees.{Tree}
 use Rattle.pointwise_ir.specs.Reads.{Reads}
@@ -32,6 +32,21 @@ ReadsFrom size e p g dx dy = (x : ℤ) × (y : ℤ) × (u : ℤ) × (v : ℤ) ×
 -- in some pixel of the frame the expression reads the pixel of image g that is dx columns to the right and dy rows down
 abbrev pub ReadsAt : Size → Tree → (g : ℕ) → (dx dy : ℤ) → Type 0
 ReadsAt size e g dx dy = (x : ℤ) × (y : ℤ) × IsTrue (in_frame size x y) × Reads size e x y g (x +ℤ dx) (y +ℤ dy)
+
+-- The offsets from where a path begins to where it ends, as reads of an image.
+pub record IsRectOf (path : Path) (number : ℕ) (rect : Rect) : Type 0 where
+  -- it has all of them, and no others
+  pub leads : (g : ℕ) (dx dy : ℤ) → IsIn rect g dx dy
+      ↔ (number ≡ g) × (x : ℤ) × (y : ℤ) × LeadsTo path x y (x +ℤ dx) (y +ℤ dy)
+  -- which are not far
+  pub near : IsNearRect rect
+
+-- What an expression reads where a path ends is added to some rectangles.
+pub record AddsRects {T E : Type 0} (size : Size) (e : Tree) (path : Path) (old new : List Rect) (result : Result T E) : Type 0 where
+  -- they have its offsets beside those that they had, and no others
+  pub added : OnOk result ((g : ℕ) (x y : ℤ) → Covered new g x y ↔ (Covered old g x y ⊎ ReadsFrom size e path g x y))
+  -- none is far, where none was
+  pub near : All IsNearRect old → All IsNearRect new
 
 -- reads of image b by image a that the rectangles have
 pub record IsByReader (rects : List Rect) (a b : ℕ) (f g : ℕ) (dx dy : ℤ) : Type 0 where

@@ -1,11 +1,10 @@
 // The live reads of an image, found in order.
 
-ghost use Rattle.std.specs.Prelude.{◌≡◌, ◌++◌, ◌∷◌, [], ℤ, ◌≤ℤ◌, OnOk, IfErr, All, OnErr};
-ghost use Rattle.dk_base.specs.Stencils.{AreInOrder};
+ghost use Rattle.std.specs.Prelude.{◌∷◌, [], ℤ, ◌≤ℤ◌, All};
 ghost use Rattle.stencil_sets.specs.declared.found.TheConstants.{FIRST_OFFSET};
 ghost use Rattle.stencil_sets.specs.Paths.{IsNearRect};
 ghost use Rattle.pointwise_ir.specs.Stencils.{the};
-ghost use Rattle.stencil_sets.specs.Found.{AllBefore, AreAmong, AreRects, Finds, IsLeft, IsOf, IsOpen, IsPartEnd, IsRun, Stopped};
+ghost use Rattle.stencil_sets.specs.Found.{AddsRead, AllBefore, AreAmong, AreRects, Finds, IsLeft, IsOf, IsOpen, IsPartEnd, IsRun};
 
 use crate::path::Rect;
 use dk_base::{LiveRead, MAX_COUNTED_READS};
@@ -24,10 +23,7 @@ pub enum Halt {
 // One read more.
 fn push_read(all: &mut Vec<LiveRead>, read: LiveRead) -> Result<(), Halt>
     requires { IsOpen all.old.items read }
-    ensures order { AreInOrder all.new.items }
-    ensures items { OnOk result (all.new.items ≡ all.old.items ++ read ∷ []) }
-    ensures stopped { IfErr result (λ halt. Stopped halt all.new.items) }
-    ensures same { OnErr result (all.new.items ≡ all.old.items) }
+    ensures { AddsRead all.old.items all.new.items read result }
 {
     if all.len() == MAX_COUNTED_READS + 1 {
         return Err(Halt::Full);

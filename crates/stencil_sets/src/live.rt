@@ -3,7 +3,7 @@
 ghost use Rattle.std.specs.Prelude.{◌≡◌, ◌+◌, ◌≤◌, ◌<◌, IfOk, IfErr, length};
 ghost use Rattle.dk_base.specs.declared.TheConstants.{MAX_COUNTED_READS};
 ghost use Rattle.pointwise_ir.specs.Stencils.{AreReads, AreStencilsOf};
-ghost use Rattle.stencil_sets.specs.Marks.{AreKeptOf, AreMarks};
+ghost use Rattle.stencil_sets.specs.Marks.{AreMarks, AreOutputsAndKept};
 ghost use Rattle.stencil_sets.specs.Faults.{IsFault};
 
 use crate::found::Halt;
@@ -62,8 +62,7 @@ fn stencils_of(
     images: Vec<Image>,
     reads: Vec<LiveRead>,
 ) -> Result<Stencils, StencilFault>
-    requires outputs { outputs.items ≡ ir.now.outputs }
-    requires kept { AreKeptOf ir.now images.items }
+    requires parts { AreOutputsAndKept ir.now outputs.items images.items }
     requires reads { AreReads ir.now reads.items }
     ensures stencils { IfOk result (λ s. AreStencilsOf ir.now s) }
     ensures fault { IfErr result (λ fault. IsFault ir.now fault) }
@@ -85,8 +84,7 @@ fn kept_of(
     kept: &[bool],
 ) -> Result<(Vec<u32>, Vec<Image>), OutOfMemory>
     requires { AreMarks ir.now kept.now }
-    ensures outputs { IfOk result (λ r. r.0.items ≡ ir.now.outputs) }
-    ensures kept { IfOk result (λ r. AreKeptOf ir.now r.1.items) }
+    ensures { IfOk result (λ r. AreOutputsAndKept ir.now r.0.items r.1.items) }
 {
     let outputs = Vec::from_slice(alloc, ir.outputs())?;
     let images = images_of(alloc, ir, kept)?;

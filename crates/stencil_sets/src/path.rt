@@ -1,10 +1,9 @@
 // The rectangles of offsets that are read at the ends of paths through an expression.
 
-ghost use Rattle.std.specs.Prelude.{◌≡◌, ◌↔◌, ◌⊎◌, ℕ, ℤ, ◌+ℤ◌, OnOk, All};
 ghost use Rattle.dk_base.specs.FrameSizes.{size_of};
 ghost use Rattle.pointwise_ir.specs.Trees.{read, tree_of};
-ghost use Rattle.frame_paths.specs.Paths.{LeadsTo, IsPath};
-ghost use Rattle.stencil_sets.specs.Paths.{IsIn, IsNearRect, Covered, ReadsFrom};
+ghost use Rattle.frame_paths.specs.Paths.{IsPath};
+ghost use Rattle.stencil_sets.specs.Paths.{AddsRects, IsRectOf};
 
 use dk_base::{FrameSize, OutOfMemory};
 use frame_paths::{Offsets, Path};
@@ -21,9 +20,7 @@ pub struct Rect {
 // The offsets from where the path begins to where it ends, as reads of the image.
 fn rect_of(path: Path, size: FrameSize, image: u32) -> Rect
     requires { IsPath (size_of size) path }
-    ensures leads { (g : ℕ) (dx dy : ℤ) → IsIn result g dx dy
-        ↔ (image ≡ g) × (x : ℤ) × (y : ℤ) × LeadsTo path x y (x +ℤ dx) (y +ℤ dy) }
-    ensures near { IsNearRect result }
+    ensures { IsRectOf path image result }
 {
     let across = path.across.offsets(size.width);
     let down = path.down.offsets(size.height);
@@ -51,10 +48,9 @@ fn add_read(
     image_read: ImageRead,
 ) -> Result<(), OutOfMemory>
     requires { IsPath (size_of size) path }
-    ensures added { OnOk result ((g : ℕ) (x y : ℤ) → Covered all.new.items g x y
-        ↔ (Covered all.old.items g x y ⊎ ReadsFrom (size_of size)
-        (read image_read.edge image_read.image image_read.dx image_read.dy) path g x y)) }
-    ensures near { All IsNearRect all.old.items → All IsNearRect all.new.items }
+    ensures { AddsRects (size_of size)
+        (read image_read.edge image_read.image image_read.dx image_read.dy)
+        path all.old.items all.new.items result }
 {
     match path.step(size, image_read.edge, image_read.dx, image_read.dy) {
         Some(end) => {
@@ -74,9 +70,7 @@ pub fn add_reads(
     path: Path,
 ) -> Result<(), OutOfMemory>
     requires { IsPath (size_of size) path }
-    ensures added { OnOk result ((g : ℕ) (x y : ℤ) → Covered all.new.items g x y
-        ↔ (Covered all.old.items g x y ⊎ ReadsFrom (size_of size) (tree_of body.now) path g x y)) }
-    ensures near { All IsNearRect all.old.items → All IsNearRect all.new.items }
+    ensures { AddsRects (size_of size) (tree_of body.now) path all.old.items all.new.items result }
 {
     match body {
         Expr::Constant(_, _) => Ok(()),

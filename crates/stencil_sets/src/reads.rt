@@ -1,12 +1,12 @@
 // The live reads of all kept images.
 
-ghost use Rattle.std.specs.Prelude.{◌≡◌, [], ◌<◌, ℕ, ℤ, OnOk, IfErr};
+ghost use Rattle.std.specs.Prelude.{◌≡◌, [], ◌<◌, ℕ, ℤ};
 ghost use Rattle.dk_base.specs.FrameSizes.{size_of};
 ghost use Rattle.pointwise_ir.specs.Trees.{tree_of};
-ghost use Rattle.pointwise_ir.specs.Stencils.{the, AreReads};
-ghost use Rattle.stencil_sets.specs.Found.{AllBefore, Finds, IsOpen, Stopped};
+ghost use Rattle.pointwise_ir.specs.Stencils.{the};
+ghost use Rattle.stencil_sets.specs.Found.{AllBefore, Finds, IsOpen};
 ghost use Rattle.stencil_sets.specs.declared.found.TheConstants.{FIRST_OFFSET};
-ghost use Rattle.stencil_sets.specs.Live.{AreSome};
+ghost use Rattle.stencil_sets.specs.Live.{FindsReads};
 ghost use Rattle.stencil_sets.specs.Paths.{ReadsAt, IsReadOf};
 ghost use Rattle.stencil_sets.specs.Marks.{AreMarks};
 
@@ -46,9 +46,7 @@ pub(crate) fn push_marked(
 ) -> Result<(), Halt>
     requires marks { AreMarks ir.now kept.now }
     requires none { all.old.items ≡ [] }
-    ensures exact { OnOk result (AreReads ir.now all.new.items) }
-    ensures sound { AreSome ir.now all.new.items }
-    ensures stopped { IfErr result (λ halt. Stopped halt all.new.items) }
+    ensures { FindsReads ir.now all.new.items result }
 {
     ir.law();
     let size = ir.size();

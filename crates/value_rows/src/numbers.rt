@@ -71,7 +71,8 @@ fn low_bits(value: i64, mask: u64) -> u64
 // A value cut to an unsigned type of fewer than 64 bits, by its mask.
 pub fn cut_unsigned(value: i64, mask: i64) -> i64
     requires { pos 0 ≤ℤ mask }
-    ensures { (w : ℕ) → w ≤ 63 → mask ≡ pos (2 ^ w - 1) → result ≡ wrapped_worth (Unsigned w) value }
+    ensures { (w : ℕ) → w ≤ 63 → mask ≡ pos (2 ^ w - 1)
+        → result ≡ wrapped_worth (Unsigned w) value }
 {
     number_of(low_bits(value, bits_of(mask)))
 }
@@ -92,7 +93,8 @@ fn turned(low: u64, mask: u64, half: u64) -> i64
 pub fn cut_signed(value: i64, mask: i64, half: i64) -> i64
     requires mask { pos 0 ≤ℤ mask }
     requires half { pos 0 ≤ℤ half }
-    ensures { (w : ℕ) → 1 ≤ w → w ≤ 63 → mask ≡ pos (2 ^ w - 1) → half ≡ pos (2 ^ (w - 1)) → result ≡ wrapped_worth (Signed w) value }
+    ensures { (w : ℕ) → 1 ≤ w → w ≤ 63 → mask ≡ pos (2 ^ w - 1) → half ≡ pos (2 ^ (w - 1))
+        → result ≡ wrapped_worth (Signed w) value }
 {
     let mask = bits_of(mask);
     let low = low_bits(value, mask);

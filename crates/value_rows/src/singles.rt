@@ -30,7 +30,8 @@ pub(crate) trait Single<L: Element> {
 #[inline(always)]
 pub(crate) fn single_row<L: Element, S: Single<L>>(single: &S, to: &mut [L])
     requires { (k : ℕ) → k < length to.old → S.takes single.now (entry (map L.worth to.old) k) }
-    ensures { (k : ℕ) → k < length to.old → entry (map L.worth to.new) k ≡ S.value single.now (entry (map L.worth to.old) k) }
+    ensures { (k : ℕ) → k < length to.old
+        → entry (map L.worth to.new) k ≡ S.value single.now (entry (map L.worth to.old) k) }
 {
     for k in 0..to.len() {
         to[k] = single.of(to[k]);

@@ -1,4 +1,3 @@
-use Rattle.raster_delay.proofs.Places.{system_form}
 use Rattle.plan_check.proofs.Flowing.{reads_of_system}
 use Rattle.plan_check.proofs.lines.image_holds.Goals as goal
 

@@ -1,11 +1,14 @@
-use Rattle.std.proofs.Common.{◌∙◌}
+use Rattle.std.proofs.Common.{rules, ◌∙◌}
 use Rattle.pointwise_eval.proofs.Outputs.{outputs_there, frames_are}
 use Rattle.pointwise_eval.proofs.evaluation.evaluate.Goals as goal
 
-pub frames_of_outputs-requires-clause-outputs : goal.frames_of_outputs-requires-clause-outputs
-frames_of_outputs-requires-clause-outputs c =
+pub frames_of_outputs-requires : goal.frames_of_outputs-requires
+frames_of_outputs-requires c =
     let needs = rw c.deref.ensures.value at c.in_ok-planes.ensures in
-    rw (c.size.ensures, c.outputs.ensures, c.deref_mut.ensures.value) (outputs_there c.args.ir.now _ c.in_ok-until.until.items c.in_ok-planes.planes.items c.law.ensures c.in_ok-until.ensures needs)
+    record {
+      outputs = rw (c.size.ensures, c.outputs.ensures, c.deref_mut.ensures.value) (outputs_there c.args.ir.now _ c.in_ok-until.until.items c.in_ok-planes.planes.items c.law.ensures c.in_ok-until.ensures needs);
+      distinct = search rules;
+    }
 
 pub returns : goal.returns
 returns c =

@@ -13,5 +13,5 @@ returns-in-None-clause-fault c =
     counted p reads n c.requires.reads
     (subst (λ (rs : List LiveRead). length rs ≤ 65536 → n ≡ length rs) is c.count_of-count.ensures.few)
     (subst (λ (rs : List LiveRead). 65536 < length rs → n ≡ 65537) is c.count_of-count.ensures.many)
-    (too_many p c.law.ensures c.args.images.items reads c.requires.kept.images c.requires.kept.form c.requires.reads (size_of c.size-size.result) (length c.inputs.result.now) c.args.outputs.items
-    c.size-size.ensures (ap length c.inputs.ensures) c.requires.outputs (λ s. let e = c.in-None.ensures.made.1 s in absurd (cc (e))))
+    (too_many p c.law.ensures c.args.images.items reads c.requires.parts.kept.images c.requires.parts.kept.form c.requires.reads (size_of c.size-size.result) (length c.inputs.result.now) c.args.outputs.items
+    c.size-size.ensures (ap length c.inputs.ensures) c.requires.parts.outputs (λ s. let e = c.in-None.ensures.made.1 s in absurd (cc (e))))
