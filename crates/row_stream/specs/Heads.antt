@@ -1,12 +1,13 @@
 -- The header that comes next, taken byte by byte.
 use Rattle.std.specs.Prelude.{◌≡◌, ℕ, ◌<◌, ◌≤◌, ◌-◌, ◌^◌, ◌++◌, Bool, true, List, length, take, Some}
 use Rattle.std.specs.Io.KnownBytes.{prepend_known, IsAtEnd}
+use Rattle.dk_desk.specs.declared.Stage.TheVariants.{Open}
 use Rattle.dk_desk.specs.Outside.{Outside, Input}
 use Rattle.pgm_codec.specs.declared.header.Header.{Header}
 use Rattle.pgm_codec.specs.declared.scan.Scan.TheVariants.{Done, More}
 use Rattle.pgm_codec.specs.Answers.{Answers, Undecided}
 use Rattle.dk_base.specs.Frames.{Size}
-use Rattle.dk_base.specs.declared.TheConstants.{MAX_HEADER_BYTES}
+use Rattle.dk_base.specs.declared.TheConstants.{MAX_HEADER_BYTES, MAX_PORT_WIDTH}
 use Rattle.pgm_rounds.specs.declared.fault.FileFault.{FileFault}
 use Rattle.pgm_rounds.specs.Files.{IsHeaded, HasSize, Refused}
 use Rattle.row_stream.specs.declared.faults.StreamFault.{StreamFault}
@@ -62,3 +63,12 @@ abbrev pub EndsHeading : Size → (bits offset : ℕ) → (may_end : Bool) → S
 EndsHeading size bits offset may_end (Image fault) old new = RefusesHead size bits offset may_end fault old new
 EndsHeading size bits offset may_end Read old new = LosesHead old new
 EndsHeading size bits offset may_end Write old new = ⊥
+
+-- The header that comes next can be taken, at this offset of the file, of images whose samples have this width.
+pub record CanTakeHead (bits offset : ℕ) (o : Outside) : Type 0 where
+  -- Image is open
+  pub opened : o.image.stage ≡ Open
+  -- there are ports of this width
+  pub width : bits ≤ MAX_PORT_WIDTH
+  -- the places of the header can be counted
+  pub place : offset < 2 ^ 62

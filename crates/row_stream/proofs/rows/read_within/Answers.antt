@@ -1,4 +1,4 @@
-use Rattle.std.proofs.Common.{rules, ◌≡◌, ◌∙◌, length, take, subst, sym}
+use Rattle.std.proofs.Common.{subst, sym}
 use Rattle.std.specs.Result.{OnOk}
 use Rattle.pgm_codec.specs.Rasters.{row_length}
 use Rattle.row_stream.specs.RowReading.{TakesRow}
