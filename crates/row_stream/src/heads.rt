@@ -3,7 +3,7 @@
 ghost use Rattle.std.specs.Prelude.{◌≡◌, Ok, Err, None, IfOk, IfErr, IfSome, IsErr, OnErr, option_to_list};
 ghost use Rattle.std.specs.Io.KnownBytes.{prepend_known, IsAtEnd};
 ghost use Rattle.dk_base.specs.FrameSizes.{size_of};
-ghost use Rattle.row_stream.specs.Heads.{CanTakeHead, TakesHead, TakesFitting, HasEnded, EndsHeading};
+ghost use Rattle.row_stream.specs.Heads.{CanTakeHead, TakesHead, TakesNext, HasEnded, EndsHeading};
 ghost use Rattle.row_stream.specs.HeadReading.{EndsHead};
 ghost use Rattle.row_stream.specs.Calls.{OnlyReads};
 
@@ -78,13 +78,9 @@ pub(crate) fn next_image<D: Desk>(
     may_end: bool,
 ) -> Result<Option<Header>, StreamFault>
     requires { CanTakeHead bits offset (D.outside desk.old) }
-    ensures ok { IfOk result (λ next. IfSome next
-        (TakesFitting (size_of size) bits (D.outside desk.old).image (D.outside desk.new).image)) }
-    ensures none { result ≡ Ok None → HasEnded may_end (D.outside desk.old) (D.outside desk.new) }
-    ensures err { IfErr result (λ f. EndsHeading (size_of size) bits offset may_end f
-        (D.outside desk.old).image (D.outside desk.new).image) }
-    ensures desk { OnlyReads (result ≡ Err StreamFault.Read) (D.outside desk.old)
-        (D.outside desk.new) }
+    ensures { TakesNext result (size_of size) bits may_end
+        (λ f. EndsHeading (size_of size) bits offset may_end f (D.outside desk.old).image
+        (D.outside desk.new).image) (D.outside desk.old) (D.outside desk.new) }
 {
     match next_head(desk, may_end) {
         Err(HeadFault::Read) => Err(StreamFault::Read),

@@ -6,10 +6,10 @@ ghost use Rattle.dk_base.specs.FrameSizes.{size_of};
 ghost use Rattle.dk_desk.specs.Outside.{Input};
 ghost use Rattle.pgm_codec.specs.Rasters.{row_length};
 ghost use Rattle.row_stream.specs.Formats.{kind_of};
-ghost use Rattle.row_stream.specs.Heads.{CanTakeHead, TakesHead, TakesFitting, HasEnded};
+ghost use Rattle.row_stream.specs.Heads.{CanTakeHead, TakesHead, TakesNext};
 ghost use Rattle.row_stream.specs.Ends.{EndsNext};
 ghost use Rattle.row_stream.specs.ImageReading.{EndsImage, EndsImages, StreamsAll, unread};
-ghost use Rattle.row_stream.specs.Calls.{OnlyReads, ReadsAndWrites};
+ghost use Rattle.row_stream.specs.Calls.{ReadsAndWrites};
 ghost use Rattle.row_stream.specs.States.{CanStream, IsReady, Keeps, StreamsOrEnds};
 
 use crate::faults::{StreamFault, raster_fault};
@@ -42,14 +42,10 @@ fn further_image<D: Desk>(
 ) -> Result<Option<Header>, StreamFault>
     requires head { CanTakeHead bits offset (D.outside desk.old) }
     requires images { images ≤ MAX_FILE_IMAGES }
-    ensures ok { IfOk result (λ next. IfSome next
-        (TakesFitting (size_of size) bits (D.outside desk.old).image (D.outside desk.new).image)) }
+    ensures next { TakesNext result (size_of size) bits true
+        (λ f. EndsNext (size_of size) bits images offset f (D.outside desk.old).image
+        (D.outside desk.new).image) (D.outside desk.old) (D.outside desk.new) }
     ensures few { IfOk result (λ next. IfSome next (λ _. images < MAX_FILE_IMAGES)) }
-    ensures none { result ≡ Ok None → HasEnded true (D.outside desk.old) (D.outside desk.new) }
-    ensures err { IfErr result (λ f. EndsNext (size_of size) bits images offset f
-        (D.outside desk.old).image (D.outside desk.new).image) }
-    ensures desk { OnlyReads (result ≡ Err StreamFault.Read) (D.outside desk.old)
-        (D.outside desk.new) }
 {
     if images < MAX_FILE_IMAGES {
         return next_image(desk, size, bits, offset, true);

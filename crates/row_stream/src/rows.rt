@@ -1,11 +1,11 @@
 //! The lines of an image, read, judged and clocked.
 
-ghost use Rattle.std.specs.Prelude.{◌≡◌, ℕ, ◌*◌, ◌^◌, ◌<◌, ◌≤◌, Ok, Err, OnOk, IfErr, length, slice_index, take};
+ghost use Rattle.std.specs.Prelude.{◌≡◌, ℕ, ◌*◌, ◌^◌, ◌<◌, ◌≤◌, Ok, Err, OnOk, IfErr, length, slice_index};
 ghost use Rattle.std.specs.Io.KnownBytes.{prepend_known};
 ghost use Rattle.dk_base.specs.declared.TheConstants.{MAX_SIDE};
 ghost use Rattle.pgm_codec.specs.Rasters.{JudgesRow, row_length};
 ghost use Rattle.row_stream.specs.Rows.{CanReadRow, IsRowFault};
-ghost use Rattle.row_stream.specs.RowReading.{TakesRow};
+ghost use Rattle.row_stream.specs.RowReading.{ReadsRow};
 ghost use Rattle.row_stream.specs.Calls.{OnlyReads};
 ghost use Rattle.row_stream.specs.States.{CanStream, EndsAtRow, EndsInRows, StreamsOrEnds};
 
@@ -75,12 +75,7 @@ fn read_within<D: Desk>(
     to: &mut [u8],
 ) -> Result<(), RowsFault>
     requires { CanReadRow header.now row (length to.old) (D.outside desk.old) }
-    ensures room { length to.new ≡ length to.old }
-    ensures ok { OnOk result (TakesRow header.now row (take (row_length header.now) to.new)
-        (D.outside desk.old).image (D.outside desk.new).image) }
-    ensures fault { IfErr result
-        (λ e. IsRowFault header.now row e (D.outside desk.old).image (D.outside desk.new).image) }
-    ensures desk { OnlyReads (result ≡ Err RowsFault.Read) (D.outside desk.old)
+    ensures { ReadsRow result header.now row to.old to.new (D.outside desk.old)
         (D.outside desk.new) }
 {
     let count = row_bytes(header);
@@ -95,12 +90,7 @@ fn read_front<D: Desk>(
     to: &mut Vec<u8>,
 ) -> Result<(), RowsFault>
     requires { CanReadRow header.now row (length to.old.items) (D.outside desk.old) }
-    ensures room { length to.new.items ≡ length to.old.items }
-    ensures ok { OnOk result (TakesRow header.now row (take (row_length header.now) to.new.items)
-        (D.outside desk.old).image (D.outside desk.new).image) }
-    ensures fault { IfErr result
-        (λ e. IsRowFault header.now row e (D.outside desk.old).image (D.outside desk.new).image) }
-    ensures desk { OnlyReads (result ≡ Err RowsFault.Read) (D.outside desk.old)
+    ensures { ReadsRow result header.now row to.old.items to.new.items (D.outside desk.old)
         (D.outside desk.new) }
 {
     read_within(desk, header, row, to)
