@@ -1,7 +1,6 @@
 -- What a stream keeps, and what its calls leave of the desk.
-use Rattle.std.proofs.Common.{◌≡◌, ℕ, ◌+◌, ◌*◌, ◌-◌, ◌^◌, ◌<◌, ◌≤◌, List, [], ◌∷◌, ◌++◌, length, map, refl, ap, sym, subst, ◌∙◌, Result, Ok, Err, arith}
+use Rattle.std.proofs.Common.{◌≡◌, ℕ, ◌+◌, ◌*◌, ◌-◌, ◌^◌, ◌≤◌, List, [], ◌∷◌, ◌++◌, refl, sym, subst, ◌∙◌, Result, Ok, Err}
 use Rattle.std.specs.Result.{IfErr, OnErr, IsErrAnd}
-use Rattle.std.specs.Prelude.{All}
 use Rattle.std.specs.List.{AllByRecursion}
 use Rattle.dk_base.specs.declared.TheConstants.{MAX_PORT_WIDTH}
 use Rattle.wiring.specs.Netlist.{Netlist}
@@ -12,7 +11,7 @@ use Rattle.cycle_sim.specs.Ports.{din_widths}
 use Rattle.row_stream.specs.declared.state.Stream.{Stream}
 use Rattle.row_stream.specs.Standing.{HasRoom, IsOneToOne, IsPixelClock, Lasts}
 use Rattle.row_stream.specs.Batches.{HasBatch}
-use Rattle.row_stream.specs.States.{Setting, setting_of, IsStream, Keeps}
+use Rattle.row_stream.specs.States.{Setting, IsStream, Keeps}
 use Rattle.row_stream.proofs.Clocks.{runs_join}
 use Rattle.row_stream.proofs.Rasters.{both}
 

@@ -12,9 +12,9 @@ use Rattle.dk_desk.specs.Outside.{Outside, Input}
 use Rattle.dk_desk.specs.Calls.{IsIfTold, AddsToFile, CreatesOnly, ReadsOnly, grow_created, with_created}
 use Rattle.dk_desk.proofs.DeskLemmas.{grown-nothing, grow_created-nothing, told-itself, told-grown, told-grow_created, prepend_known-more}
 use Rattle.wiring.specs.Netlist.{Netlist}
-use Rattle.wiring.specs.Snapshot.{Contents, Snapshot}
+use Rattle.wiring.specs.Snapshot.{Contents}
 use Rattle.wiring.specs.Clock.{Clock}
-use Rattle.wiring.specs.Runs.{Runs, picture}
+use Rattle.wiring.specs.Runs.{picture}
 use Rattle.pgm_codec.specs.declared.header.Header.{Header}
 use Rattle.pgm_codec.specs.Images.{IsRaster, raster_of}
 use Rattle.pgm_rounds.specs.declared.fault.FileFault.{FileFault}
@@ -25,7 +25,7 @@ use Rattle.row_stream.specs.declared.faults.StreamFault.{StreamFault}
 use Rattle.row_stream.specs.declared.faults.StreamFault.TheVariants.{Image, Read, Write}
 use Rattle.row_stream.specs.Lines.{Kind, head, lines, line_at}
 use Rattle.row_stream.specs.Moving.{Gains, GainsBut}
-use Rattle.row_stream.specs.Standing.{note_of, pixel_clock, reset_clock, Starts, Lasts}
+use Rattle.row_stream.specs.Standing.{note_of, pixel_clock, reset_clock}
 use Rattle.row_stream.specs.Progress.{Writes, FailsInLine, Goes, Fails, pixel_clocks}
 use Rattle.row_stream.specs.Heads.{EndsHeading}
 use Rattle.row_stream.specs.RowReading.{AreRows, Streams, EndsReading, samples_in}

@@ -1,21 +1,16 @@
 -- Pixel clocks that follow one another.
-use Rattle.std.proofs.Common.{◌≡◌, ℕ, zero, suc, ◌+◌, ◌<◌, [], ◌∷◌, ◌++◌, map, refl, ap, sym, subst, ◌∙◌, arith}
-use Rattle.std.specs.List.{AllByRecursion, range_with_len}
+use Rattle.std.proofs.Common.{◌≡◌, ℕ, zero, suc, ◌+◌, [], ◌∷◌, ◌++◌, map, ap, sym, subst, ◌∙◌, arith}
+use Rattle.std.specs.List.{range_with_len}
 use Rattle.std.proofs.lemmas.List.FromFn.{map-range_with_len_more}
 use Rattle.dk_desk.specs.Outside.{Outside}
 use Rattle.wiring.specs.Netlist.{Netlist}
-use Rattle.wiring.specs.Snapshot.{Contents, Fit}
+use Rattle.wiring.specs.Snapshot.{Contents}
 use Rattle.wiring.specs.Clock.{Clock}
-use Rattle.cycle_sim.specs.Ports.{din_widths}
 use Rattle.row_stream.specs.declared.line.Line.{Line}
 use Rattle.row_stream.specs.Lines.{Kind}
-use Rattle.row_stream.specs.Standing.{IsPixelClock, pixel_clock}
+use Rattle.row_stream.specs.Standing.{pixel_clock}
 use Rattle.row_stream.specs.Progress.{Goes, pixel_clocks}
 use Rattle.row_stream.proofs.Clocks.{goes_join}
-
-pub all_pixels : (m : Netlist) (f : ℕ → ℕ) (a n : ℕ) → ((k : ℕ) → k < a + n → Fit (din_widths m) (f k ∷ [])) → AllByRecursion (IsPixelClock m) (map (λ k. pixel_clock (f k)) (range_with_len a n))
-all_pixels m f a zero h = tt
-all_pixels m f a (suc n) h = ((refl, h a (omega arith)), all_pixels m f (a + 1) n (λ k l. h k (omega (arith, l))))
 
 one_more : (f : ℕ → ℕ) (k : ℕ) → pixel_clocks f (k + 1) ≡ pixel_clocks f k ++ pixel_clock (f k) ∷ []
 one_more f k = map-range_with_len_more (λ j. pixel_clock (f j)) 0 k k (omega arith)

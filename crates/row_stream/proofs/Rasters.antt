@@ -6,19 +6,18 @@ use Rattle.std.proofs.lemmas.List.{get_or_append_left, get_or-append-add}
 use Rattle.dk_desk.specs.Outside.{Outside}
 use Rattle.dk_desk.proofs.DeskLemmas.{prepend_known-more}
 use Rattle.wiring.specs.Netlist.{Netlist}
-use Rattle.wiring.specs.Snapshot.{Contents, Fit}
+use Rattle.wiring.specs.Snapshot.{Contents}
 use Rattle.wiring.specs.Clock.{Clock}
-use Rattle.cycle_sim.specs.Ports.{din_widths}
 use Rattle.pgm_codec.specs.declared.header.Header.{Header}
 use Rattle.pgm_codec.specs.Images.{is_narrow, size_of, sample_size}
 use Rattle.pgm_codec.specs.Rasters.{AllFit, sample_by, sample_at, row_length}
 use Rattle.row_stream.specs.declared.line.Line.{Line}
 use Rattle.row_stream.specs.Lines.{Kind}
-use Rattle.row_stream.specs.Standing.{pixel_clock, IsPixelClock, Lasts}
+use Rattle.row_stream.specs.Standing.{pixel_clock, IsPixelClock}
 use Rattle.row_stream.specs.Progress.{Goes, pixel_clocks}
 use Rattle.row_stream.specs.RowReading.{Streams, samples_in}
-use Rattle.row_stream.proofs.Clocks.{goes_join, goes_none, runs_join}
-use Rattle.row_stream.proofs.Pixels.{cut, all_pixels}
+use Rattle.row_stream.proofs.Clocks.{goes_join, goes_none}
+use Rattle.row_stream.proofs.Pixels.{cut}
 
 pub side : (k n : ℕ) → (k < n) ⊎ ((j : ℕ) × (k ≡ n + j))
 side k zero = inr (k, (let e : k ≡ 0 + k = omega arith in e))

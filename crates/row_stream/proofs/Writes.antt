@@ -4,7 +4,7 @@ use Rattle.std.proofs.lemmas.List.{take-append-le}
 use Rattle.std.proofs.Math.Seq.{take-append-add}
 use Rattle.dk_desk.specs.declared.OutSlot.TheVariants.{File}
 use Rattle.dk_desk.specs.Outside.{Outside}
-use Rattle.dk_desk.specs.Calls.{Adds, AddsToFile, WritesFront}
+use Rattle.dk_desk.specs.Calls.{AddsToFile, WritesFront}
 use Rattle.dk_desk.proofs.DeskLemmas.{Adds-more, told-grown, told-grow_created}
 use Rattle.row_stream.specs.Moving.{Gains, GainsBut}
 

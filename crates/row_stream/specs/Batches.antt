@@ -1,5 +1,5 @@
 -- The clocks of a line.
-use Rattle.std.specs.Prelude.{◌≡◌, ℕ, ◌≤◌, true, List, [], ◌∷◌, All, length, map, replicate}
+use Rattle.std.specs.Prelude.{◌≡◌, ℕ, ◌≤◌, Bool, true, List, [], ◌∷◌, All, length, map, replicate}
 use Rattle.std.specs.List.{AllZip}
 use Rattle.wiring.specs.Netlist.{Netlist}
 use Rattle.wiring.specs.Snapshot.{Contents, Snapshot, Fit}
@@ -30,3 +30,17 @@ pub record CanStep (m : Netlist) (dins : List ℕ) (from : Contents) : Type 0 wh
   pub one_din : length (din_widths m) ≡ 1
   pub fit : All (λ d. Fit (din_widths m) (d ∷ [])) dins
   pub lasts : Lasts m from
+
+-- Clocks with `en` at 1 can be made for these numbers at the din, and no later clock stops.
+pub record CanStepAll (m : Netlist) (ens : List Bool) (numbers : List ℕ) (from : Contents) : Type 0 where
+  -- the module can take them
+  pub can : CanStep m numbers from
+  -- `en` is at 1 in each
+  pub enables : ens ≡ replicate (length numbers) true
+
+-- The module went through them, and is the same.
+pub record StepsAll (m now : Netlist) (numbers : List ℕ) (from to : Contents) (outs : List Out) : Type 0 where
+  -- it is the same
+  pub netlist : now ≡ m
+  -- the output shows this
+  pub ran : Ran m numbers from to outs

@@ -1,14 +1,16 @@
 -- The header that comes next, taken byte by byte.
-use Rattle.std.specs.Prelude.{◌≡◌, ℕ, ◌<◌, ◌≤◌, ◌-◌, ◌^◌, ◌++◌, Bool, true, List, length, take, Some}
+use Rattle.std.specs.Prelude.{◌≡◌, ℕ, ◌<◌, ◌≤◌, ◌-◌, ◌^◌, ◌++◌, Bool, true, List, length, take, Option, Some, None, Result, Ok, Err, IfOk, IfErr, IfSome}
 use Rattle.std.specs.Io.KnownBytes.{prepend_known, IsAtEnd}
+use Rattle.dk_desk.specs.declared.Stage.TheVariants.{Open}
 use Rattle.dk_desk.specs.Outside.{Outside, Input}
 use Rattle.pgm_codec.specs.declared.header.Header.{Header}
 use Rattle.pgm_codec.specs.declared.scan.Scan.TheVariants.{Done, More}
 use Rattle.pgm_codec.specs.Answers.{Answers, Undecided}
 use Rattle.dk_base.specs.Frames.{Size}
-use Rattle.dk_base.specs.declared.TheConstants.{MAX_HEADER_BYTES}
+use Rattle.dk_base.specs.declared.TheConstants.{MAX_HEADER_BYTES, MAX_PORT_WIDTH}
 use Rattle.pgm_rounds.specs.declared.fault.FileFault.{FileFault}
 use Rattle.pgm_rounds.specs.Files.{IsHeaded, HasSize, Refused}
+use Rattle.row_stream.specs.Calls.{OnlyReads}
 use Rattle.row_stream.specs.declared.faults.StreamFault.{StreamFault}
 use Rattle.row_stream.specs.declared.faults.StreamFault.TheVariants.{Image, Read, Write}
 
@@ -62,3 +64,23 @@ abbrev pub EndsHeading : Size → (bits offset : ℕ) → (may_end : Bool) → S
 EndsHeading size bits offset may_end (Image fault) old new = RefusesHead size bits offset may_end fault old new
 EndsHeading size bits offset may_end Read old new = LosesHead old new
 EndsHeading size bits offset may_end Write old new = ⊥
+
+-- The header that comes next can be taken, at this offset of the file, of images whose samples have this width.
+pub record CanTakeHead (bits offset : ℕ) (o : Outside) : Type 0 where
+  -- Image is open
+  pub opened : o.image.stage ≡ Open
+  -- there are ports of this width
+  pub width : bits ≤ MAX_PORT_WIDTH
+  -- the places of the header can be counted
+  pub place : offset < 2 ^ 62
+
+-- The next header, of an image that fits, or none at the end of the input. `ends` is why there is neither.
+pub record TakesNext (result : Result (Option Header) StreamFault) (size : Size) (bits : ℕ) (may_end : Bool) (ends : StreamFault → Type 0) (before now : Outside) : Type 0 where
+  -- a header: it was taken, and no byte after it
+  pub ok : IfOk result (λ next. IfSome next (TakesFitting size bits before.image now.image))
+  -- none: the input ended before it, where it may
+  pub none : result ≡ Ok None → HasEnded may_end before now
+  -- else this is why
+  pub err : IfErr result ends
+  -- of the desk only Image was read
+  pub desk : OnlyReads (result ≡ Err Read) before now

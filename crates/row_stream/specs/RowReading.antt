@@ -1,6 +1,6 @@
 -- Used by private functions only.
 -- The lines that were read and clocked, and why the next one was not.
-use Rattle.std.specs.Prelude.{◌≡◌, ℕ, ◌*◌, ◌<◌, List, length, slice_index, Ok}
+use Rattle.std.specs.Prelude.{◌≡◌, ℕ, ◌*◌, ◌<◌, List, length, slice_index, take, Ok, Err, Result, OnOk, IfErr}
 use Rattle.std.specs.Io.KnownBytes.{prepend_known}
 use Rattle.dk_desk.specs.Outside.{Outside, Input}
 use Rattle.wiring.specs.Netlist.{Netlist}
@@ -12,6 +12,7 @@ use Rattle.row_stream.specs.declared.rows.RowsFault.{RowsFault}
 use Rattle.row_stream.specs.declared.rows.RowsFault.TheVariants.{Raster, Read, Write}
 use Rattle.row_stream.specs.Lines.{Kind}
 use Rattle.row_stream.specs.Progress.{Goes, Fails, pixel_clocks}
+use Rattle.row_stream.specs.Calls.{OnlyReads}
 use Rattle.row_stream.specs.Rows.{IsRowFault}
 
 -- the numbers at the din for a raster
@@ -86,3 +87,14 @@ abbrev pub EndsRow : Kind → Netlist → Header → (row : ℕ) → RowsFault �
 EndsRow kind m header row (Raster f) from old before now = MissesRow header row (Raster f) before now
 EndsRow kind m header row Read from old before now = MissesRow header row Read before now
 EndsRow kind m header row Write from old before now = FailsRow kind m header from old before now
+
+-- A line of an image that was read into these bytes, or the fault that was met.
+pub record ReadsRow (result : Result (Unit {0}) RowsFault) (header : Header) (row : ℕ) (bytes filled : List ℕ) (before now : Outside) : Type 0 where
+  -- there are as many bytes as before
+  pub room : length filled ≡ length bytes
+  -- Ok: the first of them are the line, which is in order
+  pub ok : OnOk result (TakesRow header row (take (row_length header) filled) before.image now.image)
+  -- else it was not read whole, or is not in order
+  pub fault : IfErr result (λ e. IsRowFault header row e before.image now.image)
+  -- of the desk only Image was read
+  pub desk : OnlyReads (result ≡ Err Read) before now

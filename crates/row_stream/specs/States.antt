@@ -1,5 +1,5 @@
 -- The state of a stream between two calls.
-use Rattle.std.specs.Prelude.{◌≡◌, ℕ, ◌+◌, ◌-◌, ◌*◌, ◌^◌, ◌<◌, ◌≤◌, List, [], ◌∷◌, length, take, Result, OnOk, OnErr, IsErr}
+use Rattle.std.specs.Prelude.{◌≡◌, ℕ, ◌+◌, ◌-◌, ◌*◌, ◌^◌, ◌<◌, ◌≤◌, List, [], ◌∷◌, length, take, Result, OnOk, OnErr, IfErr, IsErr, Err}
 use Rattle.dk_base.specs.declared.TheConstants.{MAX_PORT_WIDTH}
 use Rattle.dk_base.specs.FrameSizes.{size_of}
 use Rattle.dk_desk.specs.declared.Stage.TheVariants.{Open}
@@ -12,15 +12,16 @@ use Rattle.pgm_codec.specs.declared.header.Header.{Header}
 use Rattle.pgm_codec.specs.Rasters.{row_length}
 use Rattle.row_stream.specs.declared.line.Line.{Line}
 use Rattle.row_stream.specs.declared.line.OutputFormat.{OutputFormat}
+use Rattle.row_stream.specs.declared.rows.RowsFault.{RowsFault}
 use Rattle.row_stream.specs.declared.state.Stream.{Stream}
 use Rattle.row_stream.specs.Lines.{Kind}
 use Rattle.row_stream.specs.Formats.{kind_of}
 use Rattle.row_stream.specs.Standing.{HasRoom, IsOneToOne, Lasts}
 use Rattle.row_stream.specs.Batches.{HasBatch}
 use Rattle.row_stream.specs.Heads.{FitsHeader}
-use Rattle.row_stream.specs.Calls.{OnlyWrites}
+use Rattle.row_stream.specs.Calls.{OnlyWrites, ReadsAndWrites}
 use Rattle.row_stream.specs.Progress.{AddsSamples, FailsAdding, Goes, Fails, pixel_clocks}
-use Rattle.row_stream.specs.RowReading.{samples_in}
+use Rattle.row_stream.specs.RowReading.{samples_in, EndsRow, EndsRows, Streams}
 
 -- Samples can be added: File is open, and there is room for the rest of the line that is begun.
 pub record CanAdd (format : OutputFormat) (line : Line) (o : Outside) : Type 0 where
@@ -106,3 +107,44 @@ row_of header s = take (row_length header) s.row.items
 -- a clock for each sample of that line
 abbrev pub row_clocks : Header → Stream → List Clock
 row_clocks header s = pixel_clocks (samples_in header.maxval (row_of header s)) s.format.size.width
+
+-- A sample can be added: there is room for it, it is none above the greatest, and the lines so far are few.
+pub record CanShow (format : OutputFormat) (line : Line) (o : Outside) (sample : ℕ) : Type 0 where
+  -- there is room
+  pub can : CanAdd format line o
+  -- it is none above the greatest
+  pub dout : sample ≤ format.maxval
+  -- the lines can be counted on
+  pub few : line.rows < 2 ^ 63
+
+-- Clocks can be made, and fewer lines than this were made so far.
+pub record IsReadyFor (most : ℕ) (s : Stream) (o : Outside) : Type 0 where
+  -- they can be made
+  pub ready : IsReady s o
+  -- the lines can be counted on
+  pub few : s.line.rows < most
+
+-- `rows` lines of an image with this header were read and clocked by the stream.
+abbrev pub StreamsLines : Header → (rows : ℕ) → (old new : Stream) → (before now : Outside) → Type 0
+StreamsLines header rows old new before now = Streams (kind_of old.format) old.sim.netlist header rows old.sim.contents new.sim.contents old.line new.line before now
+
+-- why the line of this number was not streamed
+abbrev pub EndsAtRow : Header → (row : ℕ) → Stream → RowsFault → (before now : Outside) → Type 0
+EndsAtRow header row old f before now = EndsRow (kind_of old.format) old.sim.netlist header row f old.sim.contents old.line before now
+
+-- why not all lines of an image were streamed
+abbrev pub EndsInRows : Header → Stream → RowsFault → (before now : Outside) → Type 0
+EndsInRows header old f before now = EndsRows (kind_of old.format) old.sim.netlist header f old.sim.contents old.line before now
+
+-- Lines of an image with this header were read and clocked by the stream, or it ended in them. The two faults are those of a read and of a write.
+pub record StreamsOrEnds {E : Type 0} (result : Result (Unit {0}) E) (reading writing : E) (ends : E → Type 0) (header : Header) (rows most : ℕ) (old new : Stream) (before now : Outside) : Type 0 where
+  -- what every call keeps
+  pub keeps : Keeps old new
+  -- Ok: the next clocks can be made, and at most so many lines were made
+  pub more : OnOk result (CanGoOn most old new now)
+  -- Ok: all of the lines were streamed
+  pub ok : OnOk result (StreamsLines header rows old new before now)
+  -- else this is why not
+  pub err : IfErr result ends
+  -- a failed read or write is answered only where there was one
+  pub desk : ReadsAndWrites (result ≡ Err reading) (result ≡ Err writing) before now

@@ -1,13 +1,13 @@
 //! The clocks of a line, and what the output shows in each of them.
 
-ghost use Rattle.std.specs.Prelude.{◌≡◌, ℕ, ◌+◌, ◌*◌, ◌≤◌, [], ◌∷◌, true, length, IfOk, IfErr, map, replicate, take};
+ghost use Rattle.std.specs.Prelude.{◌≡◌, ℕ, ◌+◌, ◌*◌, ◌≤◌, [], ◌∷◌, true, length, IfOk, IfErr, map, take};
 ghost use Rattle.std.specs.List.{range_with_len};
 ghost use Rattle.wiring.specs.Snapshot.{Snapshot, Fit};
-ghost use Rattle.wiring.specs.Clock.{given, Steps, Stops};
 ghost use Rattle.cycle_sim.specs.Ports.{din_widths, IsShown};
+ghost use Rattle.cycle_sim.specs.Simulated.{GoesOn, StopsIn, clock as clock_of};
 ghost use Rattle.pgm_codec.specs.Images.{sample_size};
 ghost use Rattle.pgm_codec.specs.Rasters.{sample_at};
-ghost use Rattle.row_stream.specs.Batches.{HasBatch, CanStep, Ran};
+ghost use Rattle.row_stream.specs.Batches.{CanStep, CanStepAll, HasBatch, StepsAll};
 
 use batch_sim::Batches;
 use cycle_sim::{IndexRange, Out};
@@ -45,10 +45,10 @@ impl Batch {
     pub(crate) fn step(&mut self, sim: &mut Batches, count: usize)
         requires room { (width : ℕ) × HasBatch width self.old × (count ≤ width) }
         requires can { CanStep sim.old.netlist self.old.dins.items sim.old.contents }
-        ensures netlist { sim.new.netlist ≡ sim.old.netlist }
+        ensures steps { StepsAll sim.old.netlist sim.new.netlist (take count self.old.dins.items)
+            sim.old.contents sim.new.contents (take count self.new.outs.items) }
         ensures batch { (width : ℕ) → HasBatch width self.old → HasBatch width self.new }
         ensures dins { self.new.dins.items ≡ self.old.dins.items }
-        ensures ran { Ran sim.old.netlist (take count self.old.dins.items) sim.old.contents sim.new.contents (take count self.new.outs.items) }
     {
         let enables = self.enables.split_at(count).0;
         let dins = self.dins.split_at(count).0;
@@ -66,12 +66,11 @@ impl Batch {
 
 // A clock for each of these numbers at the din, in one call.
 fn step_exact(sim: &mut Batches, enables: &[bool], dins: &[u64], outs: &mut [Out])
-    requires can { CanStep sim.old.netlist dins.now sim.old.contents }
-    requires enables { enables.now ≡ replicate (length dins.now) true }
+    requires clocks { CanStepAll sim.old.netlist enables.now dins.now sim.old.contents }
     requires outs { length outs.old ≡ length dins.now }
-    ensures netlist { sim.new.netlist ≡ sim.old.netlist }
+    ensures steps { StepsAll sim.old.netlist sim.new.netlist dins.now sim.old.contents
+        sim.new.contents outs.new }
     ensures outs { length outs.new ≡ length outs.old }
-    ensures ran { Ran sim.old.netlist dins.now sim.old.contents sim.new.contents outs.new }
 {
     sim.law();
     netlist::values_fit_law();
@@ -83,12 +82,11 @@ fn step_exact(sim: &mut Batches, enables: &[bool], dins: &[u64], outs: &mut [Out
 
 // `step_exact` with room for more outputs.
 fn step_within(sim: &mut Batches, enables: &[bool], dins: &[u64], outs: &mut [Out])
-    requires can { CanStep sim.old.netlist dins.now sim.old.contents }
-    requires enables { enables.now ≡ replicate (length dins.now) true }
+    requires clocks { CanStepAll sim.old.netlist enables.now dins.now sim.old.contents }
     requires outs { length dins.now ≤ length outs.old }
-    ensures netlist { sim.new.netlist ≡ sim.old.netlist }
+    ensures steps { StepsAll sim.old.netlist sim.new.netlist dins.now sim.old.contents
+        sim.new.contents (take (length dins.now) outs.new) }
     ensures outs { length outs.new ≡ length outs.old }
-    ensures ran { Ran sim.old.netlist dins.now sim.old.contents sim.new.contents (take (length dins.now) outs.new) }
 {
     let count = dins.len();
     step_exact(sim, enables, dins, &mut outs[..count]);
@@ -96,12 +94,11 @@ fn step_within(sim: &mut Batches, enables: &[bool], dins: &[u64], outs: &mut [Ou
 
 // The same for a vector.
 fn step_front(sim: &mut Batches, enables: &[bool], dins: &[u64], outs: &mut Vec<Out>)
-    requires can { CanStep sim.old.netlist dins.now sim.old.contents }
-    requires enables { enables.now ≡ replicate (length dins.now) true }
+    requires clocks { CanStepAll sim.old.netlist enables.now dins.now sim.old.contents }
     requires outs { length dins.now ≤ length outs.old.items }
-    ensures netlist { sim.new.netlist ≡ sim.old.netlist }
+    ensures steps { StepsAll sim.old.netlist sim.new.netlist dins.now sim.old.contents
+        sim.new.contents (take (length dins.now) outs.new.items) }
     ensures outs { length outs.new.items ≡ length outs.old.items }
-    ensures ran { Ran sim.old.netlist dins.now sim.old.contents sim.new.contents (take (length dins.now) outs.new.items) }
 {
     step_within(sim, enables, dins, outs);
 }
@@ -112,10 +109,9 @@ pub(crate) fn step(sim: &mut Batches, reset: bool, din: u64) -> Result<Out, Inde
     requires one { length sim.old.netlist.outputs ≡ 2 }
     ensures netlist { sim.new.netlist ≡ sim.old.netlist }
     ensures ok { IfOk result (λ out. (s : Snapshot)
-        × Steps sim.old.netlist sim.old.contents (given sim.old.netlist (record { reset = reset; enable = true; dins = din ∷ [] })) s sim.new.contents
-        × IsShown s 0 out) }
-    ensures stops { IfErr result (λ r. Stops sim.old.netlist sim.old.contents
-        (given sim.old.netlist (record { reset = reset; enable = true; dins = din ∷ [] })) r.array r.index) }
+        × GoesOn sim.old (clock_of reset true (din ∷ [])) s sim.new × IsShown s 0 out) }
+    ensures stops { IfErr result
+        (λ r. StopsIn sim.old (clock_of reset true (din ∷ [])) r.array r.index) }
 {
     let mut outs = [Out {
         valid: false,
@@ -142,7 +138,8 @@ fn sample(row: &[u8], maxval: u16, column: usize) -> u64
 // Gives each clock the sample of its number in a line.
 pub(crate) fn fill_samples(row: &[u8], maxval: u16, dins: &mut Vec<u64>)
     requires { length row.now ≡ length dins.old.items * sample_size maxval }
-    ensures is { dins.new.items ≡ map (λ k. sample_at maxval row.now k) (range_with_len 0 (length dins.old.items)) }
+    ensures is { dins.new.items ≡ map (λ k. sample_at maxval row.now k)
+        (range_with_len 0 (length dins.old.items)) }
     ensures count { length dins.new.items ≡ length dins.old.items }
 {
     for column in 0..dins.len() {

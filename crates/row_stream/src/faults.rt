@@ -30,7 +30,8 @@ pub enum StreamFault {
 pub(crate) fn header_fault(fault: HeaderFault, offset: usize) -> FileFault
     requires refusal { IsRefusal fault }
     requires offset { offset < 2 ^ 62 }
-    ensures { (size : TheSize) (bits number : ℕ) (bytes : List ℕ) → Refuses bytes fault → Refused size bits number offset bytes result }
+    ensures { (size : TheSize) (bits number : ℕ) (bytes : List ℕ) → Refuses bytes fault
+        → Refused size bits number offset bytes result }
 {
     match fault {
         HeaderFault::Magic => FileFault::Magic { offset },
@@ -57,8 +58,10 @@ pub(crate) fn check_header(size: FrameSize, bits: u8, header: &Header) -> Result
     requires bits { bits ≤ MAX_PORT_WIDTH }
     ensures sized { IfOk result (λ _. HasSize (size_of size) header.now) }
     ensures maxval { IfOk result (λ _. header.now.maxval ≤ 2 ^ bits - 1) }
-    ensures unfit { OnErr result (HasSize (size_of size) header.now → header.now.maxval ≤ 2 ^ bits - 1 → ⊥) }
-    ensures fault { IfErr result (λ f. (number offset : ℕ) (bytes : List ℕ) → Reads bytes header.now → Refused (size_of size) bits number offset bytes f) }
+    ensures unfit { OnErr result (HasSize (size_of size) header.now
+        → header.now.maxval ≤ 2 ^ bits - 1 → ⊥) }
+    ensures fault { IfErr result (λ f. (number offset : ℕ) (bytes : List ℕ) → Reads bytes header.now
+        → Refused (size_of size) bits number offset bytes f) }
 {
     if header.width != size.width || header.height != size.height {
         return Err(FileFault::Size {
@@ -87,7 +90,8 @@ fn pixels(size: FrameSize, images: u64) -> usize
 pub(crate) fn raster_fault(fault: RasterFault, size: FrameSize, images: u64) -> FileFault
     requires images { images < MAX_FILE_IMAGES }
     requires index { (index : ℕ) → fault ≡ RasterFault.SampleTooGreat index → index < 2 ^ 40 }
-    ensures { (bits offset : ℕ) (bytes : List ℕ) (header : TheHeader) → IsHeaded (size_of size) bits bytes header → JudgesRaster bytes header (Err fault)
+    ensures { (bits offset : ℕ) (bytes : List ℕ) (header : TheHeader)
+        → IsHeaded (size_of size) bits bytes header → JudgesRaster bytes header (Err fault)
         → Refused (size_of size) bits images offset bytes result }
 {
     match fault {

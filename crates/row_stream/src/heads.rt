@@ -1,10 +1,9 @@
 //! The header that comes next, taken byte by byte.
 
-ghost use Rattle.std.specs.Prelude.{◌≡◌, ◌^◌, ◌<◌, ◌≤◌, Ok, Err, None, IfOk, IfErr, IfSome};
+ghost use Rattle.std.specs.Prelude.{◌≡◌, Ok, Err, None, IfOk, IfErr, IfSome, IsErr, OnErr, option_to_list};
 ghost use Rattle.std.specs.Io.KnownBytes.{prepend_known, IsAtEnd};
-ghost use Rattle.dk_base.specs.declared.TheConstants.{MAX_PORT_WIDTH};
 ghost use Rattle.dk_base.specs.FrameSizes.{size_of};
-ghost use Rattle.row_stream.specs.Heads.{TakesHead, TakesFitting, HasEnded, EndsHeading};
+ghost use Rattle.row_stream.specs.Heads.{CanTakeHead, TakesHead, TakesNext, HasEnded, EndsHeading};
 ghost use Rattle.row_stream.specs.HeadReading.{EndsHead};
 ghost use Rattle.row_stream.specs.Calls.{OnlyReads};
 
@@ -24,10 +23,11 @@ pub(crate) enum HeadFault {
 pub(crate) fn next_byte<D: Desk>(desk: &mut D) -> Result<Option<u8>, Failed>
     requires { (D.outside desk.old).image.stage ≡ Stage.Open }
     ensures given { IfOk result (λ next. (D.outside desk.old).image.rest
-        ≡ prepend_known (Rattle.std.specs.Prelude.option_to_list next) (D.outside desk.new).image.rest) }
+        ≡ prepend_known (option_to_list next) (D.outside desk.new).image.rest) }
     ensures end { result ≡ Ok None → IsAtEnd (D.outside desk.new).image.rest }
-    ensures stays { Rattle.std.specs.Prelude.OnErr result ((D.outside desk.old).image.rest ≡ (D.outside desk.new).image.rest) }
-    ensures desk { OnlyReads (Rattle.std.specs.Prelude.IsErr result) (D.outside desk.old) (D.outside desk.new) }
+    ensures stays { OnErr result
+        ((D.outside desk.old).image.rest ≡ (D.outside desk.new).image.rest) }
+    ensures desk { OnlyReads (IsErr result) (D.outside desk.old) (D.outside desk.new) }
 {
     let mut byte = [0u8; 1];
     match desk.read(InSlot::Image, &mut byte) {
@@ -40,10 +40,13 @@ pub(crate) fn next_byte<D: Desk>(desk: &mut D) -> Result<Option<u8>, Failed>
 // Reads the header that comes next. None if the input may end here, and does.
 pub(crate) fn next_head<D: Desk>(desk: &mut D, may_end: bool) -> Result<Option<Header>, HeadFault>
     requires { (D.outside desk.old).image.stage ≡ Stage.Open }
-    ensures ok { IfOk result (λ next. IfSome next (λ header. TakesHead header (D.outside desk.old).image (D.outside desk.new).image)) }
+    ensures ok { IfOk result (λ next. IfSome next
+        (λ header. TakesHead header (D.outside desk.old).image (D.outside desk.new).image)) }
     ensures none { result ≡ Ok None → HasEnded may_end (D.outside desk.old) (D.outside desk.new) }
-    ensures err { IfErr result (λ e. EndsHead may_end e (D.outside desk.old).image (D.outside desk.new).image) }
-    ensures desk { OnlyReads (result ≡ Err HeadFault.Read) (D.outside desk.old) (D.outside desk.new) }
+    ensures err { IfErr result
+        (λ e. EndsHead may_end e (D.outside desk.old).image (D.outside desk.new).image) }
+    ensures desk { OnlyReads (result ≡ Err HeadFault.Read) (D.outside desk.old)
+        (D.outside desk.new) }
 {
     pgm_codec::one_reading_law();
     let mut scan = HeaderScan::new();
@@ -74,13 +77,10 @@ pub(crate) fn next_image<D: Desk>(
     offset: usize,
     may_end: bool,
 ) -> Result<Option<Header>, StreamFault>
-    requires opened { (D.outside desk.old).image.stage ≡ Stage.Open }
-    requires bits { bits ≤ MAX_PORT_WIDTH }
-    requires offset { offset < 2 ^ 62 }
-    ensures ok { IfOk result (λ next. IfSome next (TakesFitting (size_of size) bits (D.outside desk.old).image (D.outside desk.new).image)) }
-    ensures none { result ≡ Ok None → HasEnded may_end (D.outside desk.old) (D.outside desk.new) }
-    ensures err { IfErr result (λ f. EndsHeading (size_of size) bits offset may_end f (D.outside desk.old).image (D.outside desk.new).image) }
-    ensures desk { OnlyReads (result ≡ Err StreamFault.Read) (D.outside desk.old) (D.outside desk.new) }
+    requires { CanTakeHead bits offset (D.outside desk.old) }
+    ensures { TakesNext result (size_of size) bits may_end
+        (λ f. EndsHeading (size_of size) bits offset may_end f (D.outside desk.old).image
+        (D.outside desk.new).image) (D.outside desk.old) (D.outside desk.new) }
 {
     match next_head(desk, may_end) {
         Err(HeadFault::Read) => Err(StreamFault::Read),

@@ -1,17 +1,16 @@
 //! The images of a file, one after another.
 
 ghost use Rattle.std.specs.Prelude.{true, ◌≡◌, ◌+◌, ◌*◌, ◌^◌, ◌<◌, ◌≤◌, Ok, Err, None, IfOk, IfErr, IfSome, OnOk};
-ghost use Rattle.dk_base.specs.declared.TheConstants.{MAX_FILE_IMAGES, MAX_PORT_WIDTH, MAX_SIDE};
+ghost use Rattle.dk_base.specs.declared.TheConstants.{MAX_FILE_IMAGES, MAX_SIDE};
 ghost use Rattle.dk_base.specs.FrameSizes.{size_of};
 ghost use Rattle.dk_desk.specs.Outside.{Input};
 ghost use Rattle.pgm_codec.specs.Rasters.{row_length};
 ghost use Rattle.row_stream.specs.Formats.{kind_of};
-ghost use Rattle.row_stream.specs.RowReading.{Streams};
-ghost use Rattle.row_stream.specs.Heads.{TakesHead, TakesFitting, HasEnded};
+ghost use Rattle.row_stream.specs.Heads.{CanTakeHead, TakesHead, TakesNext};
 ghost use Rattle.row_stream.specs.Ends.{EndsNext};
 ghost use Rattle.row_stream.specs.ImageReading.{EndsImage, EndsImages, StreamsAll, unread};
-ghost use Rattle.row_stream.specs.Calls.{OnlyReads, ReadsAndWrites};
-ghost use Rattle.row_stream.specs.States.{CanStream, IsReady, Keeps, CanGoOn};
+ghost use Rattle.row_stream.specs.Calls.{ReadsAndWrites};
+ghost use Rattle.row_stream.specs.States.{CanStream, IsReady, Keeps, StreamsOrEnds};
 
 use crate::faults::{StreamFault, raster_fault};
 use crate::heads::{next_byte, next_image};
@@ -41,15 +40,12 @@ fn further_image<D: Desk>(
     images: u64,
     offset: usize,
 ) -> Result<Option<Header>, StreamFault>
-    requires opened { (D.outside desk.old).image.stage ≡ Stage.Open }
-    requires bits { bits ≤ MAX_PORT_WIDTH }
+    requires head { CanTakeHead bits offset (D.outside desk.old) }
     requires images { images ≤ MAX_FILE_IMAGES }
-    requires offset { offset < 2 ^ 62 }
-    ensures ok { IfOk result (λ next. IfSome next (TakesFitting (size_of size) bits (D.outside desk.old).image (D.outside desk.new).image)) }
+    ensures next { TakesNext result (size_of size) bits true
+        (λ f. EndsNext (size_of size) bits images offset f (D.outside desk.old).image
+        (D.outside desk.new).image) (D.outside desk.old) (D.outside desk.new) }
     ensures few { IfOk result (λ next. IfSome next (λ _. images < MAX_FILE_IMAGES)) }
-    ensures none { result ≡ Ok None → HasEnded true (D.outside desk.old) (D.outside desk.new) }
-    ensures err { IfErr result (λ f. EndsNext (size_of size) bits images offset f (D.outside desk.old).image (D.outside desk.new).image) }
-    ensures desk { OnlyReads (result ≡ Err StreamFault.Read) (D.outside desk.old) (D.outside desk.new) }
 {
     if images < MAX_FILE_IMAGES {
         return next_image(desk, size, bits, offset, true);
@@ -71,13 +67,11 @@ impl Stream {
     ) -> Result<(), StreamFault>
         requires can { CanStream (2 ^ 60) self.old header.now (D.outside desk.old) }
         requires images { images < MAX_FILE_IMAGES }
-        ensures keeps { Keeps self.old self.new }
-        ensures more { OnOk result (CanGoOn (MAX_SIDE * MAX_SIDE) self.old self.new (D.outside desk.new)) }
-        ensures ok { OnOk result (Streams (kind_of self.old.format) self.old.sim.netlist header.now header.now.height
-            self.old.sim.contents self.new.sim.contents self.old.line self.new.line (D.outside desk.old) (D.outside desk.new)) }
-        ensures err { IfErr result (λ f. EndsImage (kind_of self.old.format) self.old.sim.netlist header.now self.old.bits images f
-            self.old.sim.contents self.old.line (D.outside desk.old) (D.outside desk.new)) }
-        ensures desk { ReadsAndWrites (result ≡ Err StreamFault.Read) (result ≡ Err StreamFault.Write) (D.outside desk.old) (D.outside desk.new) }
+        ensures { StreamsOrEnds result StreamFault.Read StreamFault.Write
+            (λ f. EndsImage (kind_of self.old.format) self.old.sim.netlist header.now self.old.bits
+            images f self.old.sim.contents self.old.line (D.outside desk.old) (D.outside desk.new))
+            header.now header.now.height (MAX_SIDE * MAX_SIDE) self.old self.new
+            (D.outside desk.old) (D.outside desk.new) }
     {
         let size = self.format.size;
         match self.stream_rows(desk, header) {
@@ -100,13 +94,18 @@ impl Stream {
         ensures keeps { Keeps self.old self.new }
         ensures ready { OnOk result (IsReady self.new (D.outside desk.new)) }
         ensures few { OnOk result (self.new.line.rows < 2 ^ 60) }
-        ensures ok { OnOk result ((before : Input) → TakesHead first before (D.outside desk.old).image
+        ensures ok { OnOk result
+            ((before : Input) → TakesHead first before (D.outside desk.old).image
             → StreamsAll (kind_of self.old.format) self.old.sim.netlist self.old.bits before.rest
-            self.old.sim.contents self.new.sim.contents self.old.line self.new.line (unread before (D.outside desk.old)) (D.outside desk.new)) }
-        ensures err { IfErr result (λ f. (before : Input) → TakesHead first before (D.outside desk.old).image
+            self.old.sim.contents self.new.sim.contents self.old.line self.new.line
+            (unread before (D.outside desk.old)) (D.outside desk.new)) }
+        ensures err { IfErr result
+            (λ f. (before : Input) → TakesHead first before (D.outside desk.old).image
             → EndsImages (kind_of self.old.format) self.old.sim.netlist self.old.bits f before.rest
-            self.old.sim.contents self.old.line (unread before (D.outside desk.old)) (D.outside desk.new)) }
-        ensures desk { ReadsAndWrites (result ≡ Err StreamFault.Read) (result ≡ Err StreamFault.Write) (D.outside desk.old) (D.outside desk.new) }
+            self.old.sim.contents self.old.line (unread before (D.outside desk.old))
+            (D.outside desk.new)) }
+        ensures desk { ReadsAndWrites (result ≡ Err StreamFault.Read)
+            (result ≡ Err StreamFault.Write) (D.outside desk.old) (D.outside desk.new) }
     {
         let size = self.format.size;
         let bits = self.bits;

@@ -1,14 +1,13 @@
 //! The lines of an image, read, judged and clocked.
 
-ghost use Rattle.std.specs.Prelude.{◌≡◌, ℕ, ◌*◌, ◌^◌, ◌<◌, ◌≤◌, Ok, Err, OnOk, IfErr, length, slice_index, take};
+ghost use Rattle.std.specs.Prelude.{◌≡◌, ℕ, ◌*◌, ◌^◌, ◌<◌, ◌≤◌, Ok, Err, OnOk, IfErr, length, slice_index};
 ghost use Rattle.std.specs.Io.KnownBytes.{prepend_known};
 ghost use Rattle.dk_base.specs.declared.TheConstants.{MAX_SIDE};
 ghost use Rattle.pgm_codec.specs.Rasters.{JudgesRow, row_length};
-ghost use Rattle.row_stream.specs.Formats.{kind_of};
 ghost use Rattle.row_stream.specs.Rows.{CanReadRow, IsRowFault};
-ghost use Rattle.row_stream.specs.RowReading.{TakesRow, Streams, EndsRow, EndsRows};
-ghost use Rattle.row_stream.specs.Calls.{OnlyReads, ReadsAndWrites};
-ghost use Rattle.row_stream.specs.States.{CanStream, Keeps, CanGoOn};
+ghost use Rattle.row_stream.specs.RowReading.{ReadsRow};
+ghost use Rattle.row_stream.specs.Calls.{OnlyReads};
+ghost use Rattle.row_stream.specs.States.{CanStream, EndsAtRow, EndsInRows, StreamsOrEnds};
 
 use crate::state::Stream;
 use dk_desk::transfer::read_full;
@@ -37,11 +36,14 @@ fn read_row<D: Desk>(
     requires room { length to.old ≡ row_length header.now }
     requires row { row < header.now.height }
     ensures room { length to.new ≡ row_length header.now }
-    ensures given { OnOk result ((D.outside desk.old).image.rest ≡ prepend_known to.new (D.outside desk.new).image.rest) }
+    ensures given { OnOk result
+        ((D.outside desk.old).image.rest ≡ prepend_known to.new (D.outside desk.new).image.rest) }
     ensures judged { OnOk result (JudgesRow to.new header.now row (Ok tt)) }
     ensures bytes { (k : ℕ) → slice_index to.new k < 256 }
-    ensures fault { IfErr result (λ e. IsRowFault header.now row e (D.outside desk.old).image (D.outside desk.new).image) }
-    ensures desk { OnlyReads (result ≡ Err RowsFault.Read) (D.outside desk.old) (D.outside desk.new) }
+    ensures fault { IfErr result
+        (λ e. IsRowFault header.now row e (D.outside desk.old).image (D.outside desk.new).image) }
+    ensures desk { OnlyReads (result ≡ Err RowsFault.Read) (D.outside desk.old)
+        (D.outside desk.new) }
 {
     match read_full(desk, InSlot::Image, to) {
         Err(_) => Err(RowsFault::Read),
@@ -73,10 +75,8 @@ fn read_within<D: Desk>(
     to: &mut [u8],
 ) -> Result<(), RowsFault>
     requires { CanReadRow header.now row (length to.old) (D.outside desk.old) }
-    ensures room { length to.new ≡ length to.old }
-    ensures ok { OnOk result (TakesRow header.now row (take (row_length header.now) to.new) (D.outside desk.old).image (D.outside desk.new).image) }
-    ensures fault { IfErr result (λ e. IsRowFault header.now row e (D.outside desk.old).image (D.outside desk.new).image) }
-    ensures desk { OnlyReads (result ≡ Err RowsFault.Read) (D.outside desk.old) (D.outside desk.new) }
+    ensures { ReadsRow result header.now row to.old to.new (D.outside desk.old)
+        (D.outside desk.new) }
 {
     let count = row_bytes(header);
     read_row(desk, header, row, &mut to[..count])
@@ -90,10 +90,8 @@ fn read_front<D: Desk>(
     to: &mut Vec<u8>,
 ) -> Result<(), RowsFault>
     requires { CanReadRow header.now row (length to.old.items) (D.outside desk.old) }
-    ensures room { length to.new.items ≡ length to.old.items }
-    ensures ok { OnOk result (TakesRow header.now row (take (row_length header.now) to.new.items) (D.outside desk.old).image (D.outside desk.new).image) }
-    ensures fault { IfErr result (λ e. IsRowFault header.now row e (D.outside desk.old).image (D.outside desk.new).image) }
-    ensures desk { OnlyReads (result ≡ Err RowsFault.Read) (D.outside desk.old) (D.outside desk.new) }
+    ensures { ReadsRow result header.now row to.old.items to.new.items (D.outside desk.old)
+        (D.outside desk.new) }
 {
     read_within(desk, header, row, to)
 }
@@ -108,13 +106,10 @@ impl Stream {
     ) -> Result<(), RowsFault>
         requires can { CanStream (2 ^ 61) self.old header.now (D.outside desk.old) }
         requires row { row < header.now.height }
-        ensures keeps { Keeps self.old self.new }
-        ensures more { OnOk result (CanGoOn self.old.format.size.width self.old self.new (D.outside desk.new)) }
-        ensures ok { OnOk result (Streams (kind_of self.old.format) self.old.sim.netlist header.now 1
-            self.old.sim.contents self.new.sim.contents self.old.line self.new.line (D.outside desk.old) (D.outside desk.new)) }
-        ensures err { IfErr result (λ e. EndsRow (kind_of self.old.format) self.old.sim.netlist header.now row e
-            self.old.sim.contents self.old.line (D.outside desk.old) (D.outside desk.new)) }
-        ensures desk { ReadsAndWrites (result ≡ Err RowsFault.Read) (result ≡ Err RowsFault.Write) (D.outside desk.old) (D.outside desk.new) }
+        ensures { StreamsOrEnds result RowsFault.Read RowsFault.Write
+            (λ e. EndsAtRow header.now row self.old e (D.outside desk.old) (D.outside desk.new))
+            header.now 1 self.old.format.size.width self.old self.new (D.outside desk.old)
+            (D.outside desk.new) }
     {
         read_front(desk, header, row, &mut self.row)?;
         match self.clock_row(desk, header) {
@@ -130,13 +125,10 @@ impl Stream {
         header: &Header,
     ) -> Result<(), RowsFault>
         requires { CanStream (2 ^ 60) self.old header.now (D.outside desk.old) }
-        ensures keeps { Keeps self.old self.new }
-        ensures more { OnOk result (CanGoOn (MAX_SIDE * MAX_SIDE) self.old self.new (D.outside desk.new)) }
-        ensures ok { OnOk result (Streams (kind_of self.old.format) self.old.sim.netlist header.now header.now.height
-            self.old.sim.contents self.new.sim.contents self.old.line self.new.line (D.outside desk.old) (D.outside desk.new)) }
-        ensures err { IfErr result (λ e. EndsRows (kind_of self.old.format) self.old.sim.netlist header.now e
-            self.old.sim.contents self.old.line (D.outside desk.old) (D.outside desk.new)) }
-        ensures desk { ReadsAndWrites (result ≡ Err RowsFault.Read) (result ≡ Err RowsFault.Write) (D.outside desk.old) (D.outside desk.new) }
+        ensures { StreamsOrEnds result RowsFault.Read RowsFault.Write
+            (λ e. EndsInRows header.now self.old e (D.outside desk.old) (D.outside desk.new))
+            header.now header.now.height (MAX_SIDE * MAX_SIDE) self.old self.new
+            (D.outside desk.old) (D.outside desk.new) }
     {
         for row in 0..header.height {
             self.stream_row(desk, header, row)?;

@@ -22,10 +22,12 @@ impl Stream {
         requires start { IsStart self.old }
         ensures keeps { Keeps self.old self.new }
         ensures more { OnOk result (CanGoOn 1 self.old self.new (D.outside desk.new)) }
-        ensures ok { OnOk result (Begins (kind_of self.old.format) self.old.sim.netlist name.now
-            self.old.sim.contents self.new.sim.contents self.old.line self.new.line (D.outside desk.old) (D.outside desk.new)) }
-        ensures err { OnErr result (FailsFirst (kind_of self.old.format) self.old.sim.netlist name.now
-            self.old.sim.contents (D.outside desk.old) (D.outside desk.new)) }
+        ensures ok { OnOk result
+            (Begins (kind_of self.old.format) self.old.sim.netlist name.now self.old.sim.contents
+            self.new.sim.contents self.old.line self.new.line (D.outside desk.old)
+            (D.outside desk.new)) }
+        ensures err { OnErr result (FailsFirst (kind_of self.old.format) self.old.sim.netlist
+            name.now self.old.sim.contents (D.outside desk.old) (D.outside desk.new)) }
         ensures desk { OnlyWrites (IsErr result) (D.outside desk.old) (D.outside desk.new) }
     {
         desk.create(name)?;
@@ -48,12 +50,16 @@ impl Stream {
         requires latency { latency ≤ MAX_LATENCY }
         requires start { IsStart self.old }
         ensures netlist { self.new.sim.netlist ≡ self.old.sim.netlist }
-        ensures ok { OnOk result (LeavesAll (kind_of self.old.format) self.old.sim.netlist self.old.bits latency name.now
+        ensures ok { OnOk result
+            (LeavesAll (kind_of self.old.format) self.old.sim.netlist self.old.bits latency name.now
             self.old.sim.contents (D.outside desk.old) (D.outside desk.new)) }
-        ensures err { IfErr result (λ f. Leaves (kind_of self.old.format) self.old.sim.netlist self.old.bits latency f name.now
-            self.old.sim.contents (D.outside desk.old) (D.outside desk.new)) }
-        ensures read { HasCauseIn (result ≡ Err StreamFault.Read) (D.outside desk.old).input_failures (D.outside desk.new).input_failures }
-        ensures write { HasCauseIn (result ≡ Err StreamFault.Write) (D.outside desk.old).output_failures (D.outside desk.new).output_failures }
+        ensures err { IfErr result
+            (λ f. Leaves (kind_of self.old.format) self.old.sim.netlist self.old.bits latency f
+            name.now self.old.sim.contents (D.outside desk.old) (D.outside desk.new)) }
+        ensures read { HasCauseIn (result ≡ Err StreamFault.Read)
+            (D.outside desk.old).input_failures (D.outside desk.new).input_failures }
+        ensures write { HasCauseIn (result ≡ Err StreamFault.Write)
+            (D.outside desk.old).output_failures (D.outside desk.new).output_failures }
     {
         let first = match next_image(desk, self.format.size, self.bits, 0, false)? {
             None => unreachable!(),

@@ -1,10 +1,11 @@
 -- Used by private functions only.
 -- What the clocks of a batch show.
-use Rattle.std.specs.Prelude.{◌≡◌, ◌*◌, ◌^◌, ◌<◌, ◌≤◌, ℕ, List, slice_get, Some, ◌+◌, Bool, [], ◌∷◌, ◌++◌, length, map, Option, if◌then◌else◌}
+use Rattle.std.specs.Prelude.{◌≡◌, ◌*◌, ◌^◌, ◌<◌, ◌≤◌, ℕ, List, slice_get, Some, ◌+◌, Bool, [], ◌∷◌, ◌++◌, length, map, Option, if◌then◌else◌, Result, OnOk, IfErr}
 use Rattle.wiring.specs.Snapshot.{Snapshot, Contents}
 use Rattle.cycle_sim.specs.declared.ports.Out.{Out}
 use Rattle.cycle_sim.specs.Ports.{AreShown, din_widths}
-use Rattle.batch_sim.specs.Called.{batch_clocks, of_clock, FitPorts, output_count as batch_outputs}
+use Rattle.cycle_sim.specs.Simulated.{Machine}
+use Rattle.batch_sim.specs.Called.{batch_clocks, of_clock, MachineRan, FitPorts, output_count as batch_outputs}
 use Rattle.std.specs.List.{All}
 use Rattle.dk_base.specs.declared.TheConstants.{MAX_PORT_WIDTH}
 use Rattle.wiring.specs.Netlist.{Netlist}
@@ -89,3 +90,12 @@ pub record ArePictures (most number : ℕ) (pictures : List Shown) : Type 0 wher
   pub count : length pictures ≡ number
   -- each has room for its samples
   pub room : HaveRoomFor most pictures
+
+-- Clocks that were made in one call, with what the outputs show in them.
+pub record StepsBatch (old new : Machine) (clocks : List Clock) (shown : List Out) (result : Result (Unit {0}) BatchStop) : Type 0 where
+  -- the netlist is the same
+  pub netlist : new.netlist ≡ old.netlist
+  -- Ok: they took place, and the outputs show this
+  pub ok : OnOk result (MachineRan old new clocks shown)
+  -- Stop: the clocks before it took place
+  pub stop : IfErr result (StopsBatch old.netlist clocks old.contents)

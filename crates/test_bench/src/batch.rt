@@ -1,16 +1,16 @@
 // Batches of clocks.
 
-ghost use Rattle.std.specs.Prelude.{◌≡◌, ℕ, ◌+◌, ◌*◌, ◌^◌, ◌<◌, ◌≤◌, ◌++◌, ◌∷◌, [], List, false, length, take, IfOk, IfErr, OnOk, vec_capacity, if◌then◌else◌};
+ghost use Rattle.std.specs.Prelude.{◌≡◌, ℕ, ◌+◌, ◌*◌, ◌^◌, ◌<◌, ◌≤◌, ◌++◌, ◌∷◌, [], List, false, length, take, IfOk, vec_capacity, if◌then◌else◌};
 ghost use Rattle.dk_base.specs.Frames.{Size, area as area_of};
 ghost use Rattle.wiring.specs.Netlist.{Netlist};
 ghost use Rattle.cycle_sim.specs.Ports.{din_widths};
-ghost use Rattle.batch_sim.specs.Called.{clocks_for, MachineRan};
+ghost use Rattle.batch_sim.specs.Called.{clocks_for};
 ghost use Rattle.test_bench.specs.declared.batch.TheConstants.{BATCH_PIXELS};
 ghost use Rattle.stimulus.specs.Stimulus.{dins_at, pixel_clock, is_held_after, clocks_at};
 ghost use Rattle.stimulus.specs.Given.{rounds_of, AreBenchFrames};
 ghost use Rattle.test_bench.specs.Clocking.{IsFed, IsFedTo, pixel_clocks};
 ghost use Rattle.test_bench.specs.Batches.{clocks_in, Appends, HasBatch, HasPlacesFor, IsGiven, KeepsRoom};
-ghost use Rattle.test_bench.specs.BatchClocks.{CanStepFront, HasClocks, KeepsClocks, StopsBatch, clocks_of};
+ghost use Rattle.test_bench.specs.BatchClocks.{clocks_of, CanStepFront, HasClocks, KeepsClocks, StepsBatch};
 
 use crate::clocking::Feed;
 use batch_sim::{Batches, Stop};
@@ -59,12 +59,9 @@ impl Batch {
         requires clocks { HasClocks sim.old.netlist self.old }
         requires ports { length sim.old.netlist.outputs ≡ 2 * ports }
         requires room { length self.old.outs.items ≡ 2 * BATCH_PIXELS * ports }
-        ensures netlist { sim.new.netlist ≡ sim.old.netlist }
+        ensures steps { StepsBatch sim.old sim.new (clocks_of sim.old.netlist self.old)
+            (take (length self.old.enables.items * ports) self.new.outs.items) result }
         ensures keeps { KeepsClocks self.old self.new }
-        ensures ok { OnOk result (MachineRan sim.old sim.new (clocks_of sim.old.netlist self.old)
-            (take (length self.old.enables.items * ports) self.new.outs.items)) }
-        ensures stop { IfErr result
-            (StopsBatch sim.old.netlist (clocks_of sim.old.netlist self.old) sim.old.contents) }
     {
         let places = self.enables.len() * ports;
         step_front(sim, &self.enables, &self.dins, &mut self.outs, places)
@@ -88,12 +85,9 @@ fn step_within(
     places: usize,
 ) -> Result<(), Stop>
     requires { CanStepFront sim.old.netlist enables.now dins.now outs.old places }
-    ensures netlist { sim.new.netlist ≡ sim.old.netlist }
+    ensures steps { StepsBatch sim.old sim.new (clocks_for sim.old enables.now dins.now)
+        (take places outs.new) result }
     ensures outs { length outs.new ≡ length outs.old }
-    ensures ok { OnOk result (MachineRan sim.old sim.new (clocks_for sim.old enables.now dins.now)
-        (take places outs.new)) }
-    ensures stop { IfErr result
-        (StopsBatch sim.old.netlist (clocks_for sim.old enables.now dins.now) sim.old.contents) }
 {
     sim.step_batch(enables, dins, &mut outs[..places])
 }
@@ -107,12 +101,9 @@ fn step_front(
     places: usize,
 ) -> Result<(), Stop>
     requires { CanStepFront sim.old.netlist enables.now dins.now outs.old.items places }
-    ensures netlist { sim.new.netlist ≡ sim.old.netlist }
+    ensures steps { StepsBatch sim.old sim.new (clocks_for sim.old enables.now dins.now)
+        (take places outs.new.items) result }
     ensures outs { length outs.new.items ≡ length outs.old.items }
-    ensures ok { OnOk result (MachineRan sim.old sim.new (clocks_for sim.old enables.now dins.now)
-        (take places outs.new.items)) }
-    ensures stop { IfErr result
-        (StopsBatch sim.old.netlist (clocks_for sim.old enables.now dins.now) sim.old.contents) }
 {
     step_within(sim, enables, dins, outs, places)
 }

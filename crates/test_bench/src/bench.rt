@@ -11,7 +11,7 @@ ghost use Rattle.cycle_sim.specs.Ports.{din_widths};
 ghost use Rattle.stimulus.specs.Given.{rounds_of, AreBenchFrames};
 ghost use Rattle.stimulus.specs.Showing.{IsShown, IsNoted};
 ghost use Rattle.stimulus.specs.Stops.{IsBenchEnd};
-ghost use Rattle.test_bench.specs.Clocking.{ArePlain, IsSetUp, OnlyNotes};
+ghost use Rattle.test_bench.specs.Clocking.{ArePlain, IsSetUp};
 ghost use Rattle.test_bench.specs.Writing.{HasEnough, rounds_kept};
 ghost use Rattle.test_bench.specs.Filling.{AreFilled, IsShort};
 
@@ -110,7 +110,8 @@ pub fn run_bench<D: Desk>(
     requires hold { IfSome drive.hold (λ count. 0 < count) }
     requires clocks { drive.clocks < 2 ^ 60 }
     requires frames { AreBenchFrames (din_widths «module».now.netlist) (size_of size) rounds.now }
-    ensures only { OnlyNotes (D.outside desk.old) (D.outside desk.new) }
+    ensures only { D.outside desk.new ≡ record
+        (D.outside desk.old) { notes = (D.outside desk.new).notes } }
     ensures file { IfOk result (λ file.
         IsShown «module».now.netlist drive (size_of size) (rounds_of rounds.now) file.items) }
     ensures notes { OnOk result

@@ -1,19 +1,16 @@
 // The clocks of a trace.
 
-ghost use Rattle.std.specs.Prelude.{◌≡◌, ℕ, ◌+◌, ◌^◌, ◌<◌, ◌≤◌, [], ◌∷◌, pos, ◌-ℤ◌, None, Err, true, length, IfErr, IsErr, OnOk, OnErr, vec_capacity};
-ghost use Rattle.std.specs.List.{flat_map, range_with_len};
-ghost use Rattle.dk_base.specs.Frames.{Size, area as area_of};
-ghost use Rattle.dk_desk.specs.Calls.{HasCauseIn, Adds, WritesFront};
+ghost use Rattle.std.specs.Prelude.{◌≡◌, ◌+◌, ◌^◌, ◌<◌, ◌≤◌, [], ◌∷◌, pos, ◌-ℤ◌, None, Err, true, length, IfErr, OnOk, vec_capacity};
+ghost use Rattle.dk_desk.specs.Calls.{Adds};
 ghost use Rattle.wiring.specs.Snapshot.{Snapshot, Fit};
-ghost use Rattle.wiring.specs.Clock.{given, Steps, Stops};
 ghost use Rattle.cycle_sim.specs.Slots.{all_values, all_widths};
 ghost use Rattle.cycle_sim.specs.Ports.{din_widths};
+ghost use Rattle.cycle_sim.specs.Simulated.{GoesOn, StopsIn as StopsMachine, clock as clock_of};
 ghost use Rattle.vcd_trace.specs.Layout.{AreValues};
 ghost use Rattle.vcd_trace.specs.Told.{clock_text, room_of};
 ghost use Rattle.stimulus.specs.Stimulus.{clocks_at};
-ghost use Rattle.stimulus.specs.Given.{rounds_of, AreBenchFrames};
-ghost use Rattle.trace_bench.specs.Tracers.{IsTracing};
-ghost use Rattle.trace_bench.specs.Going.{told_more, Goes, EndsIn};
+ghost use Rattle.stimulus.specs.Given.{rounds_of};
+ghost use Rattle.trace_bench.specs.Going.{pixel_clocks as pixel_clocks_of, told_more, CanTrace, HavePixels, Traces, WritesText};
 
 use crate::ending::TraceEnd;
 use crate::tracer::Tracer;
@@ -30,11 +27,10 @@ fn step(sim: &mut Sim, reset: bool, dins: &[u64], values: &mut Vec<u64>) -> Resu
     requires values { length values.old.items ≡ length (all_widths sim.old.netlist) }
     ensures netlist { sim.new.netlist ≡ sim.old.netlist }
     ensures count { length values.new.items ≡ length values.old.items }
-    ensures ok { OnOk result ((s : Snapshot)
-        × Steps sim.old.netlist sim.old.contents (given sim.old.netlist (record { reset = reset; enable = true; dins = dins.now })) s sim.new.contents
-        × (values.new.items ≡ all_values s)) }
-    ensures stops { IfErr result (λ r. Stops sim.old.netlist sim.old.contents
-        (given sim.old.netlist (record { reset = reset; enable = true; dins = dins.now })) r.array r.index) }
+    ensures ok { OnOk result ((s : Snapshot) × GoesOn sim.old (clock_of reset true dins.now) s
+        sim.new × (values.new.items ≡ all_values s)) }
+    ensures stops { IfErr result
+        (λ r. StopsMachine sim.old (clock_of reset true dins.now) r.array r.index) }
 {
     sim.step_seen(reset, true, dins, values)
 }
@@ -57,10 +53,8 @@ fn tell(trace: &mut Trace, values: &[u64], text: &mut Vec<u8>)
 
 // Adds bytes to File.
 pub(crate) fn write<D: Desk>(desk: &mut D, bytes: &[u8]) -> Result<(), Failed>
-    requires open { (D.outside desk.old).file.stage ≡ Stage.Open }
-    ensures ok { OnOk result (Adds OutSlot.File (D.outside desk.old) bytes.now (D.outside desk.new)) }
-    ensures err { OnErr result (WritesFront OutSlot.File (D.outside desk.old) bytes.now (D.outside desk.new)) }
-    ensures cause { HasCauseIn (IsErr result) (D.outside desk.old).output_failures (D.outside desk.new).output_failures }
+    requires { (D.outside desk.old).file.stage ≡ Stage.Open }
+    ensures { WritesText bytes.now (D.outside desk.old) (D.outside desk.new) result }
 {
     write_all(desk, OutSlot::File, bytes)
 }
@@ -75,18 +69,12 @@ fn clock_number(made: u64) -> i64
 
 // One clock, whose text is written.
 pub(crate) fn clock<D: Desk>(desk: &mut D, tracer: &mut Tracer, reset: bool) -> Result<(), TraceEnd>
-    requires open { (D.outside desk.old).file.stage ≡ Stage.Open }
-    requires tracing { IsTracing tracer.old }
+    requires can { CanTrace tracer.old (D.outside desk.old) }
     requires dins { Fit (din_widths tracer.old.sim.netlist) tracer.old.dins.items }
     requires few { tracer.old.made < 2 ^ 62 }
-    ensures netlist { tracer.new.sim.netlist ≡ tracer.old.sim.netlist }
-    ensures tracing { OnOk result (IsTracing tracer.new) }
+    ensures traces { Traces (clock_of reset true tracer.old.dins.items ∷ []) tracer.old tracer.new
+        (D.outside desk.old) (D.outside desk.new) result }
     ensures made { OnOk result (tracer.new.made ≡ tracer.old.made + 1) }
-    ensures ok { OnOk result (Goes tracer.old.sim.netlist (record { reset = reset; enable = true; dins = tracer.old.dins.items } ∷ [])
-        tracer.old.sim.contents tracer.new.sim.contents tracer.old.trace tracer.new.trace (D.outside desk.old) (D.outside desk.new)) }
-    ensures end { IfErr result (λ e. EndsIn tracer.old.sim.netlist (record { reset = reset; enable = true; dins = tracer.old.dins.items } ∷ [])
-        tracer.old.sim.contents tracer.old.trace e (D.outside desk.old) (D.outside desk.new)) }
-    ensures cause { HasCauseIn (result ≡ Err TraceEnd.Write) (D.outside desk.old).output_failures (D.outside desk.new).output_failures }
 {
     tracer.sim.law();
     netlist::values_fit_law();
@@ -115,19 +103,12 @@ fn pixel_clock<D: Desk>(
     area: usize,
     number: u64,
 ) -> Result<(), TraceEnd>
-    requires open { (D.outside desk.old).file.stage ≡ Stage.Open }
-    requires tracing { IsTracing tracer.old }
+    requires can { CanTrace tracer.old (D.outside desk.old) }
     requires few { tracer.old.made < 2 ^ 62 }
-    requires area { 0 < area }
-    requires frames { (size : Size) × AreBenchFrames (din_widths tracer.old.sim.netlist) size rounds.now × (area ≡ area_of size) }
-    ensures netlist { tracer.new.sim.netlist ≡ tracer.old.sim.netlist }
-    ensures tracing { OnOk result (IsTracing tracer.new) }
+    requires pixels { HavePixels (din_widths tracer.old.sim.netlist) rounds.now area }
+    ensures traces { Traces (clocks_at None (din_widths tracer.old.sim.netlist) (rounds_of
+        rounds.now) number) tracer.old tracer.new (D.outside desk.old) (D.outside desk.new) result }
     ensures made { OnOk result (tracer.new.made ≡ tracer.old.made + 1) }
-    ensures ok { OnOk result (Goes tracer.old.sim.netlist (clocks_at None (din_widths tracer.old.sim.netlist) (rounds_of rounds.now) number)
-        tracer.old.sim.contents tracer.new.sim.contents tracer.old.trace tracer.new.trace (D.outside desk.old) (D.outside desk.new)) }
-    ensures end { IfErr result (λ e. EndsIn tracer.old.sim.netlist (clocks_at None (din_widths tracer.old.sim.netlist) (rounds_of rounds.now) number)
-        tracer.old.sim.contents tracer.old.trace e (D.outside desk.old) (D.outside desk.new)) }
-    ensures cause { HasCauseIn (result ≡ Err TraceEnd.Write) (D.outside desk.old).output_failures (D.outside desk.new).output_failures }
 {
     fill_dins(rounds, area, number, &mut tracer.dins);
     clock(desk, tracer, false)
@@ -141,21 +122,12 @@ pub(crate) fn pixel_clocks<D: Desk>(
     area: usize,
     clocks: u64,
 ) -> Result<(), TraceEnd>
-    requires open { (D.outside desk.old).file.stage ≡ Stage.Open }
-    requires tracing { IsTracing tracer.old }
+    requires can { CanTrace tracer.old (D.outside desk.old) }
     requires made { tracer.old.made ≤ 1 }
     requires clocks { clocks < 2 ^ 60 }
-    requires area { 0 < area }
-    requires frames { (size : Size) × AreBenchFrames (din_widths tracer.old.sim.netlist) size rounds.now × (area ≡ area_of size) }
-    ensures netlist { tracer.new.sim.netlist ≡ tracer.old.sim.netlist }
-    ensures tracing { OnOk result (IsTracing tracer.new) }
-    ensures ok { OnOk result (Goes tracer.old.sim.netlist
-        (flat_map (clocks_at None (din_widths tracer.old.sim.netlist) (rounds_of rounds.now)) (range_with_len 0 clocks))
-        tracer.old.sim.contents tracer.new.sim.contents tracer.old.trace tracer.new.trace (D.outside desk.old) (D.outside desk.new)) }
-    ensures end { IfErr result (λ e. EndsIn tracer.old.sim.netlist
-        (flat_map (clocks_at None (din_widths tracer.old.sim.netlist) (rounds_of rounds.now)) (range_with_len 0 clocks))
-        tracer.old.sim.contents tracer.old.trace e (D.outside desk.old) (D.outside desk.new)) }
-    ensures cause { HasCauseIn (result ≡ Err TraceEnd.Write) (D.outside desk.old).output_failures (D.outside desk.new).output_failures }
+    requires pixels { HavePixels (din_widths tracer.old.sim.netlist) rounds.now area }
+    ensures { Traces (pixel_clocks_of tracer.old rounds.now clocks) tracer.old tracer.new
+        (D.outside desk.old) (D.outside desk.new) result }
 {
     for number in 0..clocks {
         match pixel_clock(desk, tracer, rounds, area, number) {

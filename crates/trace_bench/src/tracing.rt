@@ -1,13 +1,14 @@
 // The trace of a run.
 
-ghost use Rattle.std.specs.Prelude.{◌≡◌, ◌^◌, ◌<◌, ◌≤◌, ◌++◌, None, Err, IfErr, IsErr, OnOk, OnErr, vec_capacity};
+ghost use Rattle.std.specs.Prelude.{◌≡◌, ◌^◌, ◌<◌, ◌≤◌, None, Err, IfErr, OnOk, vec_capacity};
 ghost use Rattle.dk_base.specs.FrameSizes.{size_of};
-ghost use Rattle.dk_desk.specs.Calls.{HasCauseIn, Adds, WritesFront};
+ghost use Rattle.dk_desk.specs.Calls.{HasCauseIn};
 ghost use Rattle.cycle_sim.specs.Ports.{din_widths};
 ghost use Rattle.vcd_trace.specs.Told.{end_text, room_of};
 ghost use Rattle.stimulus.specs.Given.{rounds_of, AreBenchFrames};
 ghost use Rattle.trace_bench.specs.Traces.{AddsOnly, TracesRun, EndsTrace};
 ghost use Rattle.trace_bench.specs.Tracers.{IsTracer};
+ghost use Rattle.trace_bench.specs.Going.{WritesText};
 
 use crate::clocking::{clock, pixel_clocks, write};
 use crate::ending::TraceEnd;
@@ -23,9 +24,7 @@ use vcd_trace::Trace;
 fn write_end<D: Desk>(desk: &mut D, trace: &Trace, text: &mut Vec<u8>) -> Result<(), Failed>
     requires open { (D.outside desk.old).file.stage ≡ Stage.Open }
     requires room { room_of trace.now.widths ≤ vec_capacity text.old }
-    ensures ok { OnOk result (Adds OutSlot.File (D.outside desk.old) (end_text trace.now) (D.outside desk.new)) }
-    ensures err { OnErr result (WritesFront OutSlot.File (D.outside desk.old) (end_text trace.now) (D.outside desk.new)) }
-    ensures cause { HasCauseIn (IsErr result) (D.outside desk.old).output_failures (D.outside desk.new).output_failures }
+    ensures { WritesText (end_text trace.now) (D.outside desk.old) (D.outside desk.new) result }
 {
     text.clear();
     match trace.end(text) {
@@ -51,9 +50,12 @@ pub fn run_trace<D: Desk>(
     requires clocks { drive.clocks < 2 ^ 60 }
     requires frames { AreBenchFrames (din_widths «module».now.netlist) (size_of size) rounds.now }
     ensures only { AddsOnly (D.outside desk.old) (D.outside desk.new) }
-    ensures ok { OnOk result (TracesRun «module».now drive (rounds_of rounds.now) (D.outside desk.old) (D.outside desk.new)) }
-    ensures end { IfErr result (λ e. EndsTrace «module».now drive (rounds_of rounds.now) e (D.outside desk.old) (D.outside desk.new)) }
-    ensures cause { HasCauseIn (result ≡ Err TraceEnd.Write) (D.outside desk.old).output_failures (D.outside desk.new).output_failures }
+    ensures ok { OnOk result (TracesRun «module».now drive (rounds_of rounds.now)
+        (D.outside desk.old) (D.outside desk.new)) }
+    ensures end { IfErr result (λ e. EndsTrace «module».now drive (rounds_of rounds.now) e
+        (D.outside desk.old) (D.outside desk.new)) }
+    ensures cause { HasCauseIn (result ≡ Err TraceEnd.Write) (D.outside desk.old).output_failures
+        (D.outside desk.new).output_failures }
 {
     // Only the clauses speak of the module: the tracer has its own.
     let _module = module;

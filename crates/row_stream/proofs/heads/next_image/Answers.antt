@@ -1,4 +1,4 @@
-use Rattle.std.proofs.Common.{ℕ, List, IfSome, subst, sym}
+use Rattle.std.proofs.Common.{rules, ℕ, List, IfSome, subst, sym}
 use Rattle.dk_base.specs.Frames.{Size}
 use Rattle.pgm_codec.specs.Answers.{Refuses}
 use Rattle.pgm_rounds.specs.Files.{Refused}
@@ -14,13 +14,23 @@ header_fault-requires-clause-refusal g c =
     let new = (g.D.Desk.outside c.next_head.new.desk).image in
     subst (λ f. IsRefusal f) (sym c.in-Err-Head.fault-is) (refusal_of c.args.may_end c.in-Err-Head.fault old new (subst (λ z. EndsHead c.args.may_end z old new) c.in-Err-Head.field-0-is c.in-Err-Head.ensures.err))
 
-pub returns-in-Err-Head-clause-err : goal.returns-in-Err-Head-clause-err
-returns-in-Err-Head-clause-err g c =
-    refuses_head (size_of c.args.size) c.args.bits c.args.offset c.in-Err-Head.fault c.header_fault.result (g.D.Desk.outside c.args.desk.now).image (g.D.Desk.outside c.next_head.new.desk).image c.args.may_end
-    (subst (λ f. (size : Size) (bits number : ℕ) (bytes : List ℕ) → Refuses bytes f → Refused size bits number c.args.offset bytes c.header_fault.result) c.in-Err-Head.fault-is c.header_fault.ensures)
-    (subst (λ z. EndsHead c.args.may_end z (g.D.Desk.outside c.args.desk.now).image (g.D.Desk.outside c.next_head.new.desk).image) c.in-Err-Head.field-0-is c.in-Err-Head.ensures.err)
+pub returns-in-Err-Head : goal.returns-in-Err-Head
+returns-in-Err-Head g c = record {
+  ok = search rules;
+  none = search rules;
+  err =
+      refuses_head (size_of c.args.size) c.args.bits c.args.offset c.in-Err-Head.fault c.header_fault.result (g.D.Desk.outside c.args.desk.now).image (g.D.Desk.outside c.next_head.new.desk).image c.args.may_end
+      (subst (λ f. (size : Size) (bits number : ℕ) (bytes : List ℕ) → Refuses bytes f → Refused size bits number c.args.offset bytes c.header_fault.result) c.in-Err-Head.fault-is c.header_fault.ensures)
+      (subst (λ z. EndsHead c.args.may_end z (g.D.Desk.outside c.args.desk.now).image (g.D.Desk.outside c.next_head.new.desk).image) c.in-Err-Head.field-0-is c.in-Err-Head.ensures.err);
+  desk = search rules;
+}
 
-pub returns-in-Err-clause-err : goal.returns-in-Err-clause-err
-returns-in-Err-clause-err g c =
-    refuses_taken (size_of c.args.size) c.args.bits c.args.offset c.in-Ok-Some.header c.in-Err.fault (g.D.Desk.outside c.args.desk.now).image (g.D.Desk.outside c.next_head.new.desk).image c.args.may_end c.in-Err.ensures.fault c.in-Err.ensures.unfit
-    (subst (λ z. IfSome z (λ header. TakesHead header (g.D.Desk.outside c.args.desk.now).image (g.D.Desk.outside c.next_head.new.desk).image)) c.in-Ok-Some.field-0-is c.in-Ok-Some.ensures.ok)
+pub returns-in-Err : goal.returns-in-Err
+returns-in-Err g c = record {
+  ok = search rules;
+  none = search rules;
+  err =
+      refuses_taken (size_of c.args.size) c.args.bits c.args.offset c.in-Ok-Some.header c.in-Err.fault (g.D.Desk.outside c.args.desk.now).image (g.D.Desk.outside c.next_head.new.desk).image c.args.may_end c.in-Err.ensures.fault c.in-Err.ensures.unfit
+      (subst (λ z. IfSome z (λ header. TakesHead header (g.D.Desk.outside c.args.desk.now).image (g.D.Desk.outside c.next_head.new.desk).image)) c.in-Ok-Some.field-0-is c.in-Ok-Some.ensures.ok);
+  desk = search rules;
+}

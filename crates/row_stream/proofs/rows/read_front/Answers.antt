@@ -5,8 +5,8 @@ use Rattle.row_stream.specs.RowReading.{TakesRow}
 use Rattle.row_stream.proofs.Batches.{in_place}
 use Rattle.row_stream.proofs.rows.read_front.Goals as goal
 
-pub returns-clause-ok : goal.returns-clause-ok
-returns-clause-ok g c =
+pub returns : goal.returns
+returns g c =
     let old = c.args.to.now in
     let new = c.read_within.new.to in
     let header = c.args.header.now in
@@ -14,4 +14,10 @@ returns-clause-ok g c =
     let now = (g.D.Desk.outside c.read_within.new.desk).image in
     let len : old.len ≡ length old.items = search rules in
     let size : length new ≡ length old.items = c.read_within.ensures.room ∙ ap (λ (z : List ℕ). length z) c.deref_mut.ensures.value in
-    on_ok_weaker c.read_within.result (λ h. subst (λ z. TakesRow header c.args.row (take (row_length header) z) before now) (sym (in_place old.len old.items new len size)) h) c.read_within.ensures.ok
+    let is = in_place old.len old.items new len size in
+    record {
+      room = ap (λ (z : List ℕ). length z) is ∙ size;
+      ok = on_ok_weaker c.read_within.result (λ h. subst (λ z. TakesRow header c.args.row (take (row_length header) z) before now) (sym is) h) c.read_within.ensures.ok;
+      fault = c.read_within.ensures.fault;
+      desk = c.read_within.ensures.desk;
+    }

@@ -54,20 +54,20 @@ shown-requires g c =
     let two : length m.outputs ≡ 2 * p = bench.outs ∙ ap (λ n. 2 * n) (sym ports) in
     let room : length old.batch.outs.items ≡ 2 * BATCH_PIXELS * p = bench.batch.outs ∙ ap (λ n. 2 * BATCH_PIXELS * n) (sym ports) in
     let counted : c.len-count.result ≡ length enables = omega (arith, c.len-count.ensures) in
-    let l = done_within m enables dins old.sim.contents c.in-Err.stop c.in-Err.ensures.stop in
+    let l = done_within m enables dins old.sim.contents c.in-Err.stop c.in-Err.ensures.steps.stop in
     let q = place_within c.in-Err.stop.done (2 * BATCH_PIXELS) p (let h : c.in-Err.stop.done < 2 * BATCH_PIXELS = omega (arith, l, c.requires.clocks.few) in h) in
     omega (arith, q, c.in-Err.ensures.keeps.outs, room)
 
 pub overflow_add-bench : goal.overflow_add-bench
 overflow_add-bench g c =
     let old = c.args.bench.now in
-    let l = done_within old.sim.netlist old.batch.enables.items old.batch.dins.items old.sim.contents c.in-Err.stop c.in-Err.ensures.stop in
+    let l = done_within old.sim.netlist old.batch.enables.items old.batch.dins.items old.sim.contents c.in-Err.stop c.in-Err.ensures.steps.stop in
     omega (arith, l, c.requires.few, c.requires.clocks.few)
 
 pub stopped-requires : goal.stopped-requires
 stopped-requires g c =
     let old = c.args.bench.now in
-    let l = done_within old.sim.netlist old.batch.enables.items old.batch.dins.items old.sim.contents c.in-Err.stop c.in-Err.ensures.stop in
+    let l = done_within old.sim.netlist old.batch.enables.items old.batch.dins.items old.sim.contents c.in-Err.stop c.in-Err.ensures.steps.stop in
     omega (arith, l, c.requires.few, c.requires.clocks.few)
 
 pub returns-in-Err : goal.returns-in-Err
@@ -77,7 +77,7 @@ returns-in-Err g c =
     record {
       only = c.tell.ensures.only;
       stop = subst (λ z. StopsIn m old.sim.contents old.made (batch_clocks m old.batch.enables.items old.batch.dins.items) z) (sym c.stopped.ensures)
-          (stops_in m (batch_clocks m old.batch.enables.items old.batch.dins.items) old.sim.contents old.made c.in-Err.stop c.in-Err.ensures.stop);
+          (stops_in m (batch_clocks m old.batch.enables.items old.batch.dins.items) old.sim.contents old.made c.in-Err.stop c.in-Err.ensures.steps.stop);
     }
 
 pub shown-outs-requires : goal.shown-outs-requires
@@ -115,7 +115,7 @@ show_all-requires-clause-places g c =
     let is : outs ≡ take (length enables * p) c.step.new.self.outs.items = c.shown-outs.ensures ∙ ap (λ n. take (n * p) c.step.new.self.outs.items) counted in
     let within : length enables * p ≤ length c.step.new.self.outs.items = (let l : length enables * p ≤ 2 * BATCH_PIXELS * p = places_within (length enables) (2 * BATCH_PIXELS) p c.requires.clocks.few in omega (arith, l, step.keeps.outs, room)) in
     let count : length outs ≡ length enables * p = ap (λ (z : List Out). length z) is ∙ length-take-le (length enables * p) c.step.new.self.outs.items within in
-    let r = subst (λ z. BatchRan m (batch_clocks m enables dins) old.sim.contents to z) (sym is) step.ok in
+    let r = subst (λ z. BatchRan m (batch_clocks m enables dins) old.sim.contents to z) (sym is) step.steps.ok in
     let nets = c.values_fit_law.ensures.nets in
     let next = c.values_fit_law.ensures.next in
     let fits = c.law.ensures.fit in
@@ -141,7 +141,7 @@ show_all-requires-clause-douts g c =
     let is : outs ≡ take (length enables * p) c.step.new.self.outs.items = c.shown-outs.ensures ∙ ap (λ n. take (n * p) c.step.new.self.outs.items) counted in
     let within : length enables * p ≤ length c.step.new.self.outs.items = (let l : length enables * p ≤ 2 * BATCH_PIXELS * p = places_within (length enables) (2 * BATCH_PIXELS) p c.requires.clocks.few in omega (arith, l, step.keeps.outs, room)) in
     let count : length outs ≡ length enables * p = ap (λ (z : List Out). length z) is ∙ length-take-le (length enables * p) c.step.new.self.outs.items within in
-    let r = subst (λ z. BatchRan m (batch_clocks m enables dins) old.sim.contents to z) (sym is) step.ok in
+    let r = subst (λ z. BatchRan m (batch_clocks m enables dins) old.sim.contents to z) (sym is) step.steps.ok in
     let nets = c.values_fit_law.ensures.nets in
     let next = c.values_fit_law.ensures.next in
     let fits = c.law.ensures.fit in
@@ -167,7 +167,7 @@ returns-in-Ok g c =
     let is : outs ≡ take (length enables * p) c.step.new.self.outs.items = c.shown-outs.ensures ∙ ap (λ n. take (n * p) c.step.new.self.outs.items) counted in
     let within : length enables * p ≤ length c.step.new.self.outs.items = (let l : length enables * p ≤ 2 * BATCH_PIXELS * p = places_within (length enables) (2 * BATCH_PIXELS) p c.requires.clocks.few in omega (arith, l, step.keeps.outs, room)) in
     let count : length outs ≡ length enables * p = ap (λ (z : List Out). length z) is ∙ length-take-le (length enables * p) c.step.new.self.outs.items within in
-    let r = subst (λ z. BatchRan m (batch_clocks m enables dins) old.sim.contents to z) (sym is) step.ok in
+    let r = subst (λ z. BatchRan m (batch_clocks m enables dins) old.sim.contents to z) (sym is) step.steps.ok in
     let nets = c.values_fit_law.ensures.nets in
     let next = c.values_fit_law.ensures.next in
     let fits = c.law.ensures.fit in
@@ -179,7 +179,7 @@ returns-in-Ok g c =
     let shows = shows_batch nets next m bench.order bench.rules bench.ordered enables dins old.sim.contents to outs p two count fits fit r old.most old.pictures.items c.show_all.new.pictures.items before now (λ all h. c.show_all.ensures.kept r.shots all (n ∙ sym counted) shown h) c.tell-in-Ok.ensures.notes in
     record {
       only = c.tell-in-Ok.ensures.only;
-      ok = clocked_batch enables dins old _ before now bench step.netlist refl (let e : old.made + c.len-count.result ≡ old.made + length enables = omega (arith, counted) in e) refl c.show_all.ensures.pictures.count c.show_all.ensures.pictures.room
+      ok = clocked_batch enables dins old _ before now bench step.steps.netlist refl (let e : old.made + c.len-count.result ≡ old.made + length enables = omega (arith, counted) in e) refl c.show_all.ensures.pictures.count c.show_all.ensures.pictures.room
           (record {
             enables = subst (λ v. 2 * BATCH_PIXELS ≤ vec_capacity v) (sym step.keeps.enables) bench.batch.enables;
             dins = subst (λ v. 2 * BATCH_PIXELS * length (din_widths m) ≤ vec_capacity v) (sym step.keeps.dins) bench.batch.dins;

@@ -23,7 +23,7 @@ returns-in-Err-clock-clause-end g c =
     let old = g.D.Desk.outside c.args.desk.now in
     let half = g.D.Desk.outside c.write.new.desk in
     let head : AddsToFile old c.args.tracer.now.header.items half = subst (λ z. AddsToFile old z half) c.deref.ensures.value c.in-Ok.ensures.ok in
-    reset_ends c.args.module.now c.args.drive (rounds_of c.args.rounds.now) c.requires.unheld c.args.tracer.now c.requires.tracer old half head c.in-Err-clock.end (g.D.Desk.outside c.clock.new.desk) c.in-Err-clock.ensures.end
+    reset_ends c.args.module.now c.args.drive (rounds_of c.args.rounds.now) c.requires.unheld c.args.tracer.now c.requires.tracer old half head c.in-Err-clock.end (g.D.Desk.outside c.clock.new.desk) c.in-Err-clock.ensures.traces.end
 
 pub returns-in-Err-pixel_clocks-clause-end : goal.returns-in-Err-pixel_clocks-clause-end
 returns-in-Err-pixel_clocks-clause-end g c =
@@ -32,7 +32,7 @@ returns-in-Err-pixel_clocks-clause-end g c =
     let after = g.D.Desk.outside c.clock.new.desk in
     let mid = c.clock.new.tracer in
     let head : AddsToFile old c.args.tracer.now.header.items half = subst (λ z. AddsToFile old z half) c.deref.ensures.value c.in-Ok.ensures.ok in
-    pixels_end c.args.module.now c.args.drive (rounds_of c.args.rounds.now) c.requires.unheld c.args.tracer.now c.requires.tracer old half head mid.sim.netlist c.in-Ok-clock.ensures.netlist mid.sim.contents mid.trace after c.in-Ok-clock.ensures.ok
+    pixels_end c.args.module.now c.args.drive (rounds_of c.args.rounds.now) c.requires.unheld c.args.tracer.now c.requires.tracer old half head mid.sim.netlist c.in-Ok-clock.ensures.traces.netlist mid.sim.contents mid.trace after c.in-Ok-clock.ensures.traces.ok
     c.in-Err-pixel_clocks.end (g.D.Desk.outside c.pixel_clocks.new.desk) c.in-Err-pixel_clocks.ensures.end
 
 pub returns-in-Err-write_end-clause-end : goal.returns-in-Err-write_end-clause-end
@@ -44,7 +44,7 @@ returns-in-Err-write_end-clause-end g c =
     let mid = c.clock.new.tracer in
     let new = c.pixel_clocks.new.tracer in
     let head : AddsToFile old c.args.tracer.now.header.items half = subst (λ z. AddsToFile old z half) c.deref.ensures.value c.in-Ok.ensures.ok in
-    last_fails c.args.module.now c.args.drive (rounds_of c.args.rounds.now) c.requires.unheld c.args.tracer.now c.requires.tracer old half head mid.sim.netlist c.in-Ok-clock.ensures.netlist mid.sim.contents mid.trace after c.in-Ok-clock.ensures.ok
+    last_fails c.args.module.now c.args.drive (rounds_of c.args.rounds.now) c.requires.unheld c.args.tracer.now c.requires.tracer old half head mid.sim.netlist c.in-Ok-clock.ensures.traces.netlist mid.sim.contents mid.trace after c.in-Ok-clock.ensures.traces.ok
     new.sim.contents new.trace made c.in-Ok-pixel_clocks.ensures.ok (g.D.Desk.outside c.write_end.new.desk) c.in-Err-write_end.ensures.err
 
 pub returns-in-Ok-write_end-clause-ok : goal.returns-in-Ok-write_end-clause-ok
@@ -56,7 +56,7 @@ returns-in-Ok-write_end-clause-ok g c =
     let mid = c.clock.new.tracer in
     let new = c.pixel_clocks.new.tracer in
     let head : AddsToFile old c.args.tracer.now.header.items half = subst (λ z. AddsToFile old z half) c.deref.ensures.value c.in-Ok.ensures.ok in
-    traced c.args.module.now c.args.drive (rounds_of c.args.rounds.now) c.requires.unheld c.args.tracer.now c.requires.tracer old half head mid.sim.netlist c.in-Ok-clock.ensures.netlist mid.sim.contents mid.trace after c.in-Ok-clock.ensures.ok
+    traced c.args.module.now c.args.drive (rounds_of c.args.rounds.now) c.requires.unheld c.args.tracer.now c.requires.tracer old half head mid.sim.netlist c.in-Ok-clock.ensures.traces.netlist mid.sim.contents mid.trace after c.in-Ok-clock.ensures.traces.ok
     new.sim.contents new.trace made c.in-Ok-pixel_clocks.ensures.ok (g.D.Desk.outside c.write_end.new.desk) c.in-Ok-write_end.ensures.ok
 
 pub returns-in-Err-clock-clause-only : goal.returns-in-Err-clock-clause-only

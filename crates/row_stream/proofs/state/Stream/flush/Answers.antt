@@ -13,20 +13,23 @@ use Rattle.row_stream.proofs.Keeping.{passed, keeps_then}
 use Rattle.row_stream.proofs.state.Stream.flush.Goals as goal
 
 pub flush_lines-requires-clause-ready : goal.flush_lines-requires-clause-ready
-flush_lines-requires-clause-ready g c =
-    let s = c.requires.ready.stream in
-    record {
-      stream = record {
-        bits = s.bits;
-        one = s.one;
-        fit = s.fit;
-        room = s.room;
-        row = s.row;
-        batch = record { enables = s.batch.enables; dins = c.fill_zeros.ensures.count ∙ s.batch.dins; outs = s.batch.outs };
+flush_lines-requires-clause-ready g c = record {
+  ready =
+      let s = c.requires.ready.ready.stream in
+      record {
+        stream = record {
+          bits = s.bits;
+          one = s.one;
+          fit = s.fit;
+          room = s.room;
+          row = s.row;
+          batch = record { enables = s.batch.enables; dins = c.fill_zeros.ensures.count ∙ s.batch.dins; outs = s.batch.outs };
+        };
+        created = c.requires.ready.ready.created;
+        lasts = c.requires.ready.ready.lasts;
       };
-      created = c.requires.ready.created;
-      lasts = c.requires.ready.lasts;
-    }
+  few = c.requires.ready.few;
+}
 
 pub returns-in_err-flush_lines-clause-err : goal.returns-in_err-flush_lines-clause-err
 returns-in_err-flush_lines-clause-err g c =
@@ -40,18 +43,21 @@ pub clock_batch-requires-clause-count : goal.clock_batch-requires-clause-count
 clock_batch-requires-clause-count g c =
     let old = c.args.self.now in
     let width : ℕ = old.format.size.width in
-    subst (λ (z : Setting). c.args.count % width ≤ z.kind.size.width) (sym c.in_ok-flush_lines.ensures.clocks.keeps.setting) (rest_within c.args.count width old.line.count c.requires.ready.stream.room.below)
+    subst (λ (z : Setting). c.args.count % width ≤ z.kind.size.width) (sym c.in_ok-flush_lines.ensures.clocks.keeps.setting) (rest_within c.args.count width old.line.count c.requires.ready.ready.stream.room.below)
 
-pub clock_batch-requires-clause-few : goal.clock_batch-requires-clause-few
-clock_batch-requires-clause-few g c =
-    let within = part_within c.args.count c.args.self.now.format.size.width in
-    omega (arith, c.in_ok-flush_lines.ensures.clocks.more.few, c.requires.few, c.requires.count, within)
+pub clock_batch-requires-clause-ready : goal.clock_batch-requires-clause-ready
+clock_batch-requires-clause-ready g c = record {
+  ready = c.in_ok-flush_lines.ensures.clocks.more.ready;
+  few =
+      let within = part_within c.args.count c.args.self.now.format.size.width in
+      omega (arith, c.in_ok-flush_lines.ensures.clocks.more.few, c.requires.ready.few, c.requires.count, within);
+}
 
 pub clock_batch-requires-clause-fit : goal.clock_batch-requires-clause-fit
 clock_batch-requires-clause-fit g c =
     let mid = c.flush_lines.new.self in
     let first = c.in_ok-flush_lines.ensures in
-    let zeros = first.dins ∙ c.fill_zeros.ensures.is ∙ ap (λ n. map (λ k. 0) (range_with_len 0 n)) c.requires.ready.stream.batch.dins in
+    let zeros = first.dins ∙ c.fill_zeros.ensures.is ∙ ap (λ n. map (λ k. 0) (range_with_len 0 n)) c.requires.ready.ready.stream.batch.dins in
     subst (λ z. All (λ d. Fit (din_widths mid.sim.netlist) (d ∷ [])) z) (sym zeros) (all_made (λ d. Fit (din_widths mid.sim.netlist) (d ∷ [])) (λ k. 0) c.args.self.now.format.size.width (λ k l. first.clocks.more.ready.stream.fit 0 (omega arith)))
 
 pub returns-clause-keeps : goal.returns-clause-keeps
@@ -71,8 +77,8 @@ returns-clause-ok g c =
     let half = outside c.flush_lines.new.desk in
     let now = outside c.clock_batch.new.desk in
     let first = c.in_ok-flush_lines.ensures in
-    let zeros = first.dins ∙ c.fill_zeros.ensures.is ∙ ap (λ n. map (λ k. 0) (range_with_len 0 n)) c.requires.ready.stream.batch.dins in
-    let clocks = first_clocks (λ k. 0) (n % width) width mid.batch.dins.items zeros (rest_within n width old.line.count c.requires.ready.stream.room.below) in
+    let zeros = first.dins ∙ c.fill_zeros.ensures.is ∙ ap (λ n. map (λ k. 0) (range_with_len 0 n)) c.requires.ready.ready.stream.batch.dins in
+    let clocks = first_clocks (λ k. 0) (n % width) width mid.batch.dins.items zeros (rest_within n width old.line.count c.requires.ready.ready.stream.room.below) in
     let parts = parts_of n width in
     let new = c.clock_batch.new.self in
     on_ok_weaker c.clock_batch.result (λ h.
@@ -92,8 +98,8 @@ returns-clause-err g c =
     let half = outside c.flush_lines.new.desk in
     let now = outside c.clock_batch.new.desk in
     let first = c.in_ok-flush_lines.ensures in
-    let zeros = first.dins ∙ c.fill_zeros.ensures.is ∙ ap (λ n. map (λ k. 0) (range_with_len 0 n)) c.requires.ready.stream.batch.dins in
-    let clocks = first_clocks (λ k. 0) (n % width) width mid.batch.dins.items zeros (rest_within n width old.line.count c.requires.ready.stream.room.below) in
+    let zeros = first.dins ∙ c.fill_zeros.ensures.is ∙ ap (λ n. map (λ k. 0) (range_with_len 0 n)) c.requires.ready.ready.stream.batch.dins in
+    let clocks = first_clocks (λ k. 0) (n % width) width mid.batch.dins.items zeros (rest_within n width old.line.count c.requires.ready.ready.stream.room.below) in
     let parts = parts_of n width in
     on_err_weaker c.clock_batch.result (λ h.
     fails_zeros kind m (n / width * width) (n % width) old.sim.contents mid.sim.contents old.line mid.line (outside c.args.desk.now) half now first.clocks.ok n (omega (arith, parts))

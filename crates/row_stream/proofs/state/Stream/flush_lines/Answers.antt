@@ -13,8 +13,8 @@ pub loop-number-init : goal.loop-number-init
 loop-number-init g c =
     let old = c.args.self.now in
     record {
-      keeps = keeps_none old c.requires.ready.stream;
-      more = record { ready = c.requires.ready; few = omega arith };
+      keeps = keeps_none old c.requires.ready.ready.stream;
+      more = record { ready = c.requires.ready.ready; few = omega arith };
       dins = refl;
       idle = refl;
       no_read = refl;
@@ -27,11 +27,14 @@ clock_batch-requires-clause-count g c =
     let old = c.args.self.now in
     subst (λ (z : Setting). old.format.size.width ≤ z.kind.size.width) (sym c.loop-number.invariant.keeps.setting) (omega arith)
 
-pub clock_batch-requires-clause-few : goal.clock_batch-requires-clause-few
-clock_batch-requires-clause-few g c =
-    let width : ℕ = c.args.self.now.format.size.width in
-    let within = lines_within c.loop-number.number c.args.count width c.loop-number-test.true in
-    omega (arith, c.loop-number.invariant.more.few, c.requires.few, c.requires.count, within)
+pub clock_batch-requires-clause-ready : goal.clock_batch-requires-clause-ready
+clock_batch-requires-clause-ready g c = record {
+  ready = c.loop-number.invariant.more.ready;
+  few =
+      let width : ℕ = c.args.self.now.format.size.width in
+      let within = lines_within c.loop-number.number c.args.count width c.loop-number-test.true in
+      omega (arith, c.loop-number.invariant.more.few, c.requires.ready.few, c.requires.count, within);
+}
 
 pub clock_batch-requires-clause-fit : goal.clock_batch-requires-clause-fit
 clock_batch-requires-clause-fit g c =

@@ -1,5 +1,4 @@
 use Rattle.std.proofs.Common.{◌≡◌, ◌*◌}
-use Rattle.row_stream.specs.Formats.{kind_of}
 use Rattle.row_stream.specs.Progress.{pixel_clocks}
 use Rattle.row_stream.specs.States.{Keeps, CanGoOn, GoesThrough}
 use Rattle.row_stream.proofs.state.Stream.flush_lines.Given as goal

@@ -12,11 +12,15 @@ use Rattle.row_stream.proofs.state.Stream.reset.Goals as goal
 pub step-requires-clause-din : goal.step-requires-clause-din
 step-requires-clause-din g c = c.requires.stream.fit 0 (omega arith)
 
-pub tell-requires-clause-dout : goal.tell-requires-clause-dout
-tell-requires-clause-dout g c =
+pub tell-requires : goal.tell-requires
+tell-requires g c =
     let old = c.args.self.now in
     let ok = c.in-Ok.ensures.ok in
-    dout_fits c.values_fit_law.ensures.nets (kind_of old.format) old.sim.netlist c.requires.stream.one reset_clock old.sim.contents c.step.new.sim.contents ok.0 c.in-Ok.out c.law.ensures.fit (c.requires.stream.fit 0 (omega arith)) ok.1 ok.2
+    record {
+      can = record { created = c.requires.created; room = c.requires.stream.room; some = search rules };
+      dout = dout_fits c.values_fit_law.ensures.nets (kind_of old.format) old.sim.netlist c.requires.stream.one reset_clock old.sim.contents c.step.new.sim.contents ok.0 c.in-Ok.out c.law.ensures.fit (c.requires.stream.fit 0 (omega arith)) ok.1 ok.2;
+      few = omega (arith, c.requires.few);
+    }
 
 pub returns : goal.returns
 returns g c = record {

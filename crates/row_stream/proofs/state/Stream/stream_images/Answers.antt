@@ -78,7 +78,7 @@ returns-in_err-further_image-clause-err g c =
     (λ before t. found_behind
     (ends_behind kind m old.bits c.loop-images.images c.loop-images.offset header before.rest old.sim.contents mid.sim.contents old.line mid.line (unread before (g.D.Desk.outside c.args.desk.now)) half now
     inv.fits (inv.stands before t) new.sim.contents new.line here (c.loop-images.offset + c.image_bytes-offset.result) (ap (λ z. c.loop-images.offset + z) c.image_bytes-offset.ensures.is)
-    f later c.in_err-further_image.ensures.desk.only c.in_err-further_image.ensures.err))
+    f later c.in_err-further_image.ensures.next.desk.only c.in_err-further_image.ensures.next.err))
 
 pub returns-in-None-clause-keeps : goal.returns-in-None-clause-keeps
 returns-in-None-clause-keeps g c = keeps_then c.args.self.now c.loop-images.self c.stream_image.new.self c.loop-images.invariant.keeps c.in_ok-stream_image.ensures.keeps
@@ -97,7 +97,7 @@ returns-in-None-clause-ok g c before t =
     let here = subst (λ (z : Setting). Streams z.kind z.netlist header header.height mid.sim.contents new.sim.contents mid.line new.line half now) inv.keeps.setting c.in_ok-stream_image.ensures.ok in
     streams_all kind m old.bits c.loop-images.images c.loop-images.offset header before.rest old.sim.contents mid.sim.contents old.line mid.line (unread before (g.D.Desk.outside c.args.desk.now)) half
     now inv.fits (inv.stands before t) new.sim.contents new.line here inv.inside (g.D.Desk.outside c.further_image.new.desk)
-    (c.in_ok-further_image.ensures.none (ap (λ z. Ok z) c.in-None.is)).same (c.in_ok-further_image.ensures.none (ap (λ z. Ok z) c.in-None.is)).end
+    (c.in_ok-further_image.ensures.next.none (ap (λ z. Ok z) c.in-None.is)).same (c.in_ok-further_image.ensures.next.none (ap (λ z. Ok z) c.in-None.is)).end
 
 pub loop-images-preserved : goal.loop-images-preserved
 loop-images-preserved g c =
@@ -114,7 +114,7 @@ loop-images-preserved g c =
     let later = g.D.Desk.outside c.further_image.new.desk in
     let next = c.in-Some.next in
     let ok = c.in_ok-stream_image.ensures in
-    let head : TakesFitting (size_of old.format.size) old.bits now.image later.image next = subst (λ z. IfSome z (TakesFitting (size_of old.format.size) old.bits now.image later.image)) c.in-Some.is c.in_ok-further_image.ensures.ok in
+    let head : TakesFitting (size_of old.format.size) old.bits now.image later.image next = subst (λ z. IfSome z (TakesFitting (size_of old.format.size) old.bits now.image later.image)) c.in-Some.is c.in_ok-further_image.ensures.next.ok in
     let same : later.input_failures ≡ now.input_failures = search rules in
     record {
       opened = search rules;
@@ -129,5 +129,5 @@ loop-images-preserved g c =
       stands = λ before t.
           stands_more kind m old.bits c.loop-images.images c.loop-images.offset header before.rest old.sim.contents mid.sim.contents old.line mid.line (unread before (g.D.Desk.outside c.args.desk.now)) half
           now inv.fits (inv.stands before t) new.sim.contents new.line here (c.loop-images.offset + c.image_bytes-offset.result) (ap (λ z. c.loop-images.offset + z) c.image_bytes-offset.ensures.is)
-          next later head.takes c.in_ok-further_image.ensures.desk.only same;
+          next later head.takes c.in_ok-further_image.ensures.next.desk.only same;
     }

@@ -32,23 +32,26 @@ stream_row-requires-clause-can g c =
       header = subst (λ (z : Setting). FitsHeader z.kind.size z.bits c.args.header.now) (sym inv.keeps.setting) c.requires.header;
     }
 
-pub returns-in_err-stream_row-clause-keeps : goal.returns-in_err-stream_row-clause-keeps
-returns-in_err-stream_row-clause-keeps g c = keeps_then c.args.self.now c.loop-row.self c.stream_row.new.self c.loop-row.invariant.keeps c.in_err-stream_row.ensures.keeps
-
-pub returns-in_err-stream_row-clause-err : goal.returns-in_err-stream_row-clause-err
-returns-in_err-stream_row-clause-err g c =
-    let inv = c.loop-row.invariant in
-    let old = c.args.self.now in
-    let mid = c.loop-row.self in
-    let kind = kind_of old.format in
-    let header = c.args.header.now in
-    let start = g.D.Desk.outside c.args.desk.now in
-    let half = g.D.Desk.outside c.loop-row.desk in
-    let now = g.D.Desk.outside c.stream_row.new.desk in
-    let f = c.in_err-stream_row.field-0.0 in
-    let here = subst (λ (z : Setting). EndsRow z.kind z.netlist header c.loop-row.row f mid.sim.contents mid.line half now) inv.keeps.setting c.in_err-stream_row.ensures.err in
-    if_err (λ e. EndsRows kind old.sim.netlist header e old.sim.contents old.line start now) c.from_residual.result f c.from_residual.ensures.1
-    (ends_rows kind old.sim.netlist header c.loop-row.row f old.sim.contents mid.sim.contents old.line mid.line start half now c.loop-row-test.true inv.streams here)
+pub returns-in_err-stream_row : goal.returns-in_err-stream_row
+returns-in_err-stream_row g c = record {
+  keeps = keeps_then c.args.self.now c.loop-row.self c.stream_row.new.self c.loop-row.invariant.keeps c.in_err-stream_row.ensures.keeps;
+  more = search rules;
+  ok = search rules;
+  err =
+      let inv = c.loop-row.invariant in
+      let old = c.args.self.now in
+      let mid = c.loop-row.self in
+      let kind = kind_of old.format in
+      let header = c.args.header.now in
+      let start = g.D.Desk.outside c.args.desk.now in
+      let half = g.D.Desk.outside c.loop-row.desk in
+      let now = g.D.Desk.outside c.stream_row.new.desk in
+      let f = c.in_err-stream_row.field-0.0 in
+      let here = subst (λ (z : Setting). EndsRow z.kind z.netlist header c.loop-row.row f mid.sim.contents mid.line half now) inv.keeps.setting c.in_err-stream_row.ensures.err in
+      if_err (λ e. EndsRows kind old.sim.netlist header e old.sim.contents old.line start now) c.from_residual.result f c.from_residual.ensures.1
+      (ends_rows kind old.sim.netlist header c.loop-row.row f old.sim.contents mid.sim.contents old.line mid.line start half now c.loop-row-test.true inv.streams here);
+  desk = search rules;
+}
 
 pub loop-row-preserved : goal.loop-row-preserved
 loop-row-preserved g c =
