@@ -1,8 +1,7 @@
 // The reads of a body that have nets, and the nets of its leaves.
 
 ghost use Rattle.std.specs.Prelude.{◌≡◌, map, IfOk};
-ghost use Rattle.circuit.specs.Leaves.{leaf_at};
-ghost use Rattle.circuit.specs.Known.{step_of, leaf_of};
+ghost use Rattle.circuit.specs.Known.{step_of};
 
 use datapath::Leaves;
 use dk_base::OutOfMemory;

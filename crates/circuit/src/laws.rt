@@ -13,7 +13,6 @@ ghost use Rattle.circuit.specs.Driven.{Drives};
 /// A law: after a reset clock, with frames one after another at the dins, the module of a program shows the frames of its outputs, one after another, each from its latency on.
 pub fn frame_drive_law()
     ensures { (m : Netlist) (p : Program) (plan : Plan) (places : Places) (copies : List ℕ)
-        (nets : List TheNet) (enable : Bool)
-        → IsProgram p → HasPorts m p enable → IsWhole m m
-        → RunsOn m → Behaves m p plan places copies nets → Drives m p plan }
+        (nets : List TheNet) (enable : Bool) → IsProgram p → HasPorts m p enable
+        → IsWhole m m → RunsOn m → Behaves m p plan places copies nets → Drives m p plan }
 {}

@@ -39,29 +39,6 @@ fn known_net(leaves: &BodyLeaves, key: &ReadKey) -> Option<(Ty, Net)>
     leaves.nets.reads.get(place).copied()
 }
 
-// A read that is not known, with a net of its own.
-fn push_new(
-    b: &mut Builder,
-    reader: &Reader,
-    tests: &mut FrameTests,
-    leaf: Leaf,
-    key: ReadKey,
-    leaves: &mut BodyLeaves,
-) -> Result<(), OutOfMemory>
-    requires reader { Reads b.old reader.now tests.old }
-    requires earlier { leaf.image < reader.now.image }
-    requires key { leaf_of key ≡ read_of leaf }
-    ensures grows { OnOk result (GrowWith b.new b.old tests.new tests.old reader.now
-        (AsksFor reader.now (read_of leaf.entry))) }
-    ensures leaves { OnOk result (AddsFor b.new b.old reader.now
-        (leaf_at leaf.entry.image leaf.entry.steps.now ∷ []) [] leaves.new leaves.old) }
-{
-    let net = read_net(b, reader, tests, leaf)?;
-    leaves.known.add(key, leaves.nets.reads.len())?;
-    leaves.nets.reads.push(net)?;
-    Ok(())
-}
-
 // The net of a leaf. Equal reads share their net.
 fn push_net(
     b: &mut Builder,
@@ -84,7 +61,9 @@ fn push_net(
             Ok(())
         }
         None => {
-            push_new(b, reader, tests, leaf, key, leaves)?;
+            let net = read_net(b, reader, tests, leaf)?;
+            leaves.known.add(key, leaves.nets.reads.len())?;
+            leaves.nets.reads.push(net)?;
             Ok(())
         }
     }

@@ -5,7 +5,7 @@ ghost use Rattle.dk_base.specs.FrameSizes.{size_of};
 ghost use Rattle.edge_select.specs.FrameTests.{AreFrameTests};
 ghost use Rattle.buffer_plan.specs.Plans.{latency_of};
 ghost use Rattle.circuit.specs.Behaviour.{net_of};
-ghost use Rattle.circuit.specs.Ends.{AreOuts, output_in, AreValids, IsValidOf, IsOut};
+ghost use Rattle.circuit.specs.Ends.{output_in, AreValids, IsValidOf};
 ghost use Rattle.circuit.specs.Growing.{AddsOuts, AddsValid, HasOuts};
 
 use crate::valid::valid_from;
@@ -65,25 +65,6 @@ fn dout_at(plan: &Plan, nets: &[Net], k: usize) -> Net
     nets[plan.place(g)]
 }
 
-// The output after these.
-fn out_behind(
-    b: &mut Builder,
-    plan: &Plan,
-    nets: &[Net],
-    tests: &FrameTests,
-    outs: &[(Net, Net)],
-) -> Result<(Net, Net), OutOfMemory>
-    requires next { HasOuts b.old plan.now tests.now outs.now }
-    requires count { length nets.now ≡ length plan.now.system.stencils.images }
-    requires outs { AreOuts b.old plan.now nets.now (length outs.now) outs.now }
-    ensures { IfOk result (λ out. AddsValid b.new b.old plan.now tests.now outs.now
-        (IsOut b.new plan.now nets.now (length outs.now) out) out.0) }
-{
-    let valid = valid_behind(b, plan, tests, outs)?;
-    let dout = dout_at(plan, nets, outs.len());
-    Ok((valid, dout))
-}
-
 // For each output of a plan its valid and its dout, the net of its image. Outputs of one latency share their valid.
 pub fn all_outs(
     alloc: Global,
@@ -98,8 +79,9 @@ pub fn all_outs(
 {
     let mut outs = Vec::new(alloc);
     for _ in plan.outputs() {
-        let out = out_behind(b, plan, nets, tests, &outs)?;
-        outs.push(out)?;
+        let valid = valid_behind(b, plan, tests, &outs)?;
+        let dout = dout_at(plan, nets, outs.len());
+        outs.push((valid, dout))?;
     }
     Ok(outs)
 }

@@ -48,24 +48,6 @@ pub fn test_at(
     Ok(net)
 }
 
-// The test that a pixel of image f passes where the steps lead from it somewhere, by the registers of the frame tests.
-fn test_leads(
-    b: &mut Builder,
-    plan: &Plan,
-    f: u32,
-    tests: &mut FrameTests,
-    steps: &[Step],
-) -> Result<Net, OutOfMemory>
-    requires kept { Keeps plan.now f }
-    requires tests { AreFrameTests b.old (size_in plan.now) tests.old }
-    ensures { IfOk result (MakesTest b.new b.old tests.new tests.old plan.now f
-        (AsksPart f steps.now) (LeadOn (size_in plan.now) steps.now)) }
-{
-    let delay = plan.delay(f);
-    let net = tests.leads(b, delay, steps)?;
-    Ok(net)
-}
-
 // The test that a pixel of image f passes where the steps lead from it somewhere. It takes registers only where some pixels pass and some do not.
 pub fn test_on(
     b: &mut Builder,
@@ -90,7 +72,7 @@ pub fn test_on(
             Ok(net)
         }
         Extent::Sometimes => {
-            let net = test_leads(b, plan, f, tests, steps)?;
+            let net = tests.leads(b, plan.delay(f), steps)?;
             Ok(net)
         }
     }

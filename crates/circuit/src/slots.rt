@@ -1,6 +1,6 @@
 // Which word of which array holds a pixel.
 
-ghost use Rattle.std.specs.Prelude.{◌≡◌, ◌+◌, ◌-◌, ◌%◌, ◌<◌, ◌≤◌, ◌^◌, length};
+ghost use Rattle.std.specs.Prelude.{◌≡◌, ◌+◌, ◌-◌, ◌%◌, ◌<◌, ◌^◌, length};
 ghost use Rattle.line_buffer.specs.Places.{Ascend, later, segment_place};
 ghost use Rattle.circuit.specs.Taps.{Keeps};
 ghost use Rattle.buffer_plan.specs.Plans.{depth_of};

@@ -1,6 +1,7 @@
 -- What a netlist and its frame tests gain as a test is made.
 use Rattle.std.specs.Prelude.{◌≡◌, ◌<◌, ℕ, ◌+◌, List, Option, Some, IfSome}
 use Rattle.dk_base.specs.Frames.{Size}
+use Rattle.dk_base.specs.FrameSizes.{size_of}
 use Rattle.frame_paths.specs.declared.moves.Interval.{Interval}
 use Rattle.frame_paths.specs.Moves.{IsIn}
 use Rattle.wiring.specs.declared.netlist.Net.{Net}
@@ -14,6 +15,7 @@ use Rattle.net_build.specs.Registers.{register_bits}
 use Rattle.edge_select.specs.declared.bands.Band.{Band}
 use Rattle.edge_select.specs.declared.counters.Counters.{Counters}
 use Rattle.edge_select.specs.declared.frame_tests.FrameTests.{FrameTests}
+use Rattle.edge_select.specs.Bands.{IsBand}
 use Rattle.edge_select.specs.Asked.{AddsFor, AddsOnly, SeparatesColumns, SeparatesRows}
 use Rattle.edge_select.specs.FrameTests.{AddsBeside, AddsTests, AreCounters, AreFrameTests, CountsTests, IsApart, IsColumnTest, IsFrameTest, IsPartTest, IsRowTest, counter_bits, start_bits, test_bits}
 use Rattle.edge_select.specs.Pixels.{AllPass}
@@ -26,6 +28,22 @@ pub record AreNoTests (size : Size) (t : FrameTests) : Type 0 where
   pub apart : (copies : List ℕ) → IsApart copies t
   -- their registers have no bits
   pub none : test_bits t ≡ 0
+
+-- Counters, and a band of columns.
+pub record HasColumns (b : Netlist) (k : Counters) (columns : Band) : Type 0 where
+  -- they are the counters of their frames' pixels
+  pub counters : AreCounters b (size_of k.pixel.size) k
+  -- it is a band of these frames' columns
+  pub band : IsBand k.pixel.size.width columns
+
+-- Counters, a column, and a band of rows.
+pub record HasRows (b : Netlist) (k : Counters) (first : ℕ) (rows : Band) : Type 0 where
+  -- they are the counters of their frames' pixels
+  pub counters : AreCounters b (size_of k.pixel.size) k
+  -- the column is one of these frames
+  pub start : first < k.pixel.size.width
+  -- it is a band of their rows
+  pub band : IsBand k.pixel.size.height rows
 
 -- A register of one bit is added beside the counters.
 pub record AddsBit (new old : Netlist) (k : Counters) : Type 0 where

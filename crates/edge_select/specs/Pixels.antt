@@ -29,6 +29,15 @@ pub record HasPixel (b : Netlist) (p : Pixel) : Type 0 where
   pub column_width : net_width b p.column ≡ bit_count (p.size.width - 1)
   pub row_width : net_width b p.row ≡ bit_count (p.size.height - 1)
 
+-- The nets of a pixel, and a column and a row of its frames.
+pub record HasSpot (b : Netlist) (p : Pixel) (x y : ℕ) : Type 0 where
+  -- the netlist has the nets
+  pub pixel : HasPixel b p
+  -- the column is one of the frame
+  pub in_row : x < p.size.width
+  -- and so is the row
+  pub in_column : y < p.size.height
+
 -- in a valuation the nets are column and row of a pixel of the frame
 pub record IsOnFrame (p : Pixel) (s : Snapshot) : Type 0 where
   pub column : net_value s p.column < p.size.width

@@ -5,9 +5,9 @@ ghost use Rattle.dk_base.specs.FrameSizes.{size_of};
 ghost use Rattle.net_build.specs.Counters.{after};
 ghost use Rattle.frame_paths.specs.Moves.{IsInterval};
 ghost use Rattle.edge_select.specs.Steps.{LeadBy, LeadOn};
-ghost use Rattle.edge_select.specs.Bands.{IsBand, is_new_row_in, is_next_in};
+ghost use Rattle.edge_select.specs.Bands.{is_new_row_in, is_next_in};
 ghost use Rattle.edge_select.specs.Logic.{Wires};
-ghost use Rattle.edge_select.specs.MadeTests.{AddsBit, AreNoTests, HasColumnTest, HasCounters, HasRowTest, MakesAcross, MakesDown, MakesFrameTest, MakesStart};
+ghost use Rattle.edge_select.specs.MadeTests.{AddsBit, AreNoTests, HasColumnTest, HasColumns, HasCounters, HasRowTest, HasRows, MakesAcross, MakesDown, MakesFrameTest, MakesStart};
 ghost use Rattle.edge_select.specs.Passes.{IsRectangle, Passes, PassesOn};
 ghost use Rattle.edge_select.specs.FrameTests.{AreCounters, IsColumnTest, IsRowTest, AreFrameTests, IsTested, IsTestOf, HasNone};
 
@@ -47,8 +47,7 @@ pub struct FrameTests {
 
 // The test of the next column, by the present one. A register that takes it tests the column of its own clock.
 fn next_column_test(b: &mut Builder, k: &Counters, band: Band) -> Result<Net, OutOfMemory>
-    requires counters { AreCounters b.old (size_of k.now.pixel.size) k.now }
-    requires band { IsBand k.now.pixel.size.width band }
+    requires { HasColumns b.old k.now band }
     ensures { Wires b.new b.old result (IsTestOf b.new b.old k.now.pixel.size.width
         (is_next_in k.now.pixel.size.width band) k.now.pixel.column) }
 {
@@ -72,8 +71,7 @@ fn starts(b: &mut Builder, k: &Counters, start: u32) -> Result<Net, OutOfMemory>
 
 // The test of the next row where the next column is `start`, by the present row. The row changes where the next column is the first.
 fn next_row_test(b: &mut Builder, k: &Counters, start: u32, band: Band) -> Result<Net, OutOfMemory>
-    requires counters { AreCounters b.old (size_of k.now.pixel.size) k.now }
-    requires band { IsBand k.now.pixel.size.height band }
+    requires { HasRows b.old k.now start band }
     ensures { Wires b.new b.old result (IsTestOf b.new b.old k.now.pixel.size.height
         (is_new_row_in k.now.pixel.size.height start band) k.now.pixel.row) }
 {
@@ -88,8 +86,7 @@ fn next_row_test(b: &mut Builder, k: &Counters, start: u32, band: Band) -> Resul
 
 // A register that tests the column.
 fn column_register(b: &mut Builder, k: &Counters, band: Band) -> Result<Net, OutOfMemory>
-    requires counters { AreCounters b.old (size_of k.now.pixel.size) k.now }
-    requires band { IsBand k.now.pixel.size.width band }
+    requires { HasColumns b.old k.now band }
     ensures register { OnOk result (AddsBit b.new b.old k.now) }
     ensures test { IfOk result (λ n. IsColumnTest b.new (size_of k.now.pixel.size)
         (record { start = 0; band = band; net = n })) }
@@ -101,9 +98,7 @@ fn column_register(b: &mut Builder, k: &Counters, band: Band) -> Result<Net, Out
 
 // A register that tests the row, of the pixel that came this many columns ago.
 fn row_register(b: &mut Builder, k: &Counters, start: u32, band: Band) -> Result<Net, OutOfMemory>
-    requires counters { AreCounters b.old (size_of k.now.pixel.size) k.now }
-    requires start { start < k.now.pixel.size.width }
-    requires band { IsBand k.now.pixel.size.height band }
+    requires { HasRows b.old k.now start band }
     ensures register { OnOk result (AddsBit b.new b.old k.now) }
     ensures test { IfOk result (λ n. IsRowTest b.new (size_of k.now.pixel.size)
         (record { start = start; band = band; net = n })) }

@@ -4,7 +4,7 @@ ghost use Rattle.std.specs.Prelude.{◌<◌, ◌^◌, [], ◌∷◌, ◌++◌, I
 ghost use Rattle.wiring.specs.Snapshot.{net_value};
 ghost use Rattle.net_build.specs.Logic.{Computes};
 ghost use Rattle.net_build.specs.Counters.{control_nets, taken};
-ghost use Rattle.edge_select.specs.Logic.{HasOneBit, IsBit, Wires};
+ghost use Rattle.edge_select.specs.Logic.{AreLoaded, HasOneBit, IsBit, Wires};
 ghost use Rattle.edge_select.specs.FrameTests.{AddsRegisterOf, takes, sources};
 
 use dk_base::OutOfMemory;
@@ -18,9 +18,7 @@ fn choice_of(
     test: Net,
     register: Net,
 ) -> Result<Net, OutOfMemory>
-    requires load { IsBit b.old load }
-    requires test { HasOneBit b.old test }
-    requires register { HasOneBit b.old register }
+    requires { AreLoaded b.old load test register }
     ensures { Wires b.new b.old result
         (Computes b.new b.old (sources load test register) 1 (takes load test register)) }
 {

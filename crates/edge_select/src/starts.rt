@@ -9,7 +9,7 @@ ghost use Rattle.net_build.specs.Logic.{Computes};
 ghost use Rattle.edge_select.specs.Counters.{IsPlaceOf};
 ghost use Rattle.edge_select.specs.Logic.{HasOneBit, Wires, WiresTest};
 ghost use Rattle.edge_select.specs.MadeTests.{AddsBit, MakesStart};
-ghost use Rattle.edge_select.specs.Pixels.{HasPixel};
+ghost use Rattle.edge_select.specs.Pixels.{HasSpot};
 ghost use Rattle.edge_select.specs.FrameTests.{AreCounters, IsStartTest};
 
 use crate::bands::equal_to;
@@ -50,9 +50,7 @@ fn last_spot(size: FrameSize, last: u64) -> Spot
 
 // The test that a pixel is this one.
 fn is_at(b: &mut Builder, pixel: &Pixel, spot: Spot) -> Result<Net, OutOfMemory>
-    requires pixel { HasPixel b.old pixel.now }
-    requires in_row { spot.column < pixel.now.size.width }
-    requires in_column { spot.row < pixel.now.size.height }
+    requires { HasSpot b.old pixel.now spot.column spot.row }
     ensures { WiresTest b.new b.old result (pixel.now.column ∷ (pixel.now.row ∷ []))
         (λ s. net_value s pixel.now.column == spot.column
         && net_value s pixel.now.row == spot.row) }

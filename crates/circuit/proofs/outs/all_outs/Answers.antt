@@ -1,11 +1,12 @@
-use Rattle.std.proofs.Common.{rules, ◌≡◌, ◌∙◌, ◌++◌, ◌∷◌, [], ℕ, ◌+◌, List, length, take, suc, refl, subst, ap, length-append, arith}
+use Rattle.circuit.specs.Behaviour.{net_of}
+use Rattle.std.proofs.Common.{rules, ◌≡◌, ◌∙◌, ◌++◌, ◌∷◌, [], ℕ, ◌+◌, List, length, take, suc, refl, subst, ap, length-append, arith, sym}
 use Rattle.wiring.specs.declared.netlist.Net.{Net}
 use Rattle.dk_base.specs.FrameSizes.{size_of}
 use Rattle.edge_select.proofs.Framed.{tests_more}
-use Rattle.circuit.specs.Ends.{IsOut, IsSharedBy}
+use Rattle.circuit.specs.Ends.{IsSharedBy, AreValids, IsValidOf, output_in}
 use Rattle.circuit.specs.Registers.{latencies, latency_bits, AddsLatency}
 use Rattle.circuit.proofs.Placing.{tests_none, tests_on}
-use Rattle.circuit.proofs.Leaving.{outs_none, outs_more, shared_none, shared_more}
+use Rattle.circuit.proofs.Leaving.{outs_none, outs_more, shared_none, shared_more, valids_of}
 use Rattle.circuit.proofs.outs.all_outs.Goals as goal
 
 pub loop-init : goal.loop-init
@@ -19,26 +20,33 @@ loop-init c = record {
 
 pub loop-preserved : goal.loop-preserved
 loop-preserved c =
-    let more : c.push.new.self.items ≡ c.loop.outs.items ++ c.in_ok-out.out ∷ [] = search rules in
-    let out : IsOut c.out_behind.new.b c.args.plan.now c.args.nets.now (length c.loop.outs.items) c.in_ok-out.out =
-    subst (λ (outs : List (Net × Net)). IsOut c.out_behind.new.b c.args.plan.now c.args.nets.now (length outs) c.in_ok-out.out) c.deref.ensures.value c.in_ok-out.ensures.right in
-    let shared : IsSharedBy c.args.plan.now c.loop.outs.items (length c.loop.outs.items) c.in_ok-out.out.0 =
-    subst (λ (outs : List (Net × Net)). IsSharedBy c.args.plan.now outs (length outs) c.in_ok-out.out.0) c.deref.ensures.value c.in_ok-out.ensures.shared in
+    let new = c.valid_behind.new.b in
+    let plan = c.args.plan.now in
+    let nets = c.args.nets.now in
+    let was = c.loop.outs.items in
+    let out : Net × Net = (c.in_ok-valid.valid, c.dout_at-dout.result) in
+    let more : c.push.new.self.items ≡ was ++ out ∷ [] = c.in_ok-push.ensures.items in
+    let valid = subst (λ (outs : List (Net × Net)). IsValidOf new plan (length outs) c.in_ok-valid.valid) c.deref.ensures.value c.in_ok-valid.ensures.right in
+    let shared : IsSharedBy plan was (length was) c.in_ok-valid.valid = subst (λ (outs : List (Net × Net)). IsSharedBy plan outs (length outs) c.in_ok-valid.valid) c.deref.ensures.value c.in_ok-valid.ensures.shared in
+    let dout : c.dout_at-dout.result ≡ net_of plan nets (output_in plan (length was)) = search rules in
     record {
-      count = ap length more ∙ length-append c.loop.outs.items (c.in_ok-out.out ∷ []) ∙ ap (λ (n : ℕ). n + 1) c.loop.invariant.count;
-      adds = tests_on c.args.b.now c.loop.b c.out_behind.new.b c.args.tests.now c.args.tests.now c.args.tests.now c.loop.invariant.adds c.in_ok-out.ensures.adds;
-      are = outs_more c.out_behind.new.b c.loop.b c.args.plan.now c.args.nets.now c.loop.outs.items c.push.new.self.items c.in_ok-out.out c.in_ok-out.ensures.adds.includes more c.loop.invariant.are out;
+      count = ap length more ∙ length-append was (out ∷ []) ∙ ap (λ (n : ℕ). n + 1) c.loop.invariant.count;
+      adds = tests_on c.args.b.now c.loop.b new c.args.tests.now c.args.tests.now c.args.tests.now c.loop.invariant.adds c.in_ok-valid.ensures.adds;
+      are = outs_more new c.loop.b plan nets was c.push.new.self.items out c.in_ok-valid.ensures.adds.includes more c.loop.invariant.are (record { valid = valid; dout = dout });
       bits =
-          let was = c.loop.invariant.bits in
-          let more = subst (λ (n : ℕ). AddsLatency c.out_behind.new.b c.loop.b c.args.plan.now c.args.tests.now n) (ap length c.deref.ensures.value ∙ c.loop.invariant.count) c.in_ok-out.ensures.bits in
-          let next = ap (λ (n : ℕ). latency_bits c.args.tests.now (take n (latencies c.args.plan.now))) (let e : suc c.loop.index ≡ c.loop.index + 1 = omega arith in e) in
-          omega (arith, was, more, next);
-      share = shared_more c.args.plan.now c.loop.outs.items c.push.new.self.items c.in_ok-out.out more c.loop.invariant.share shared;
+          let before = c.loop.invariant.bits in
+          let added = subst (λ (n : ℕ). AddsLatency new c.loop.b plan c.args.tests.now n) (ap length c.deref.ensures.value ∙ c.loop.invariant.count) c.in_ok-valid.ensures.bits in
+          let next = ap (λ (n : ℕ). latency_bits c.args.tests.now (take n (latencies plan))) (let e : suc c.loop.index ≡ c.loop.index + 1 = omega arith in e) in
+          omega (arith, before, added, next);
+      share = shared_more plan was c.push.new.self.items out more c.loop.invariant.share shared;
     }
 
-pub out_behind-requires-clause-next : goal.out_behind-requires-clause-next
-out_behind-requires-clause-next c = record {
+pub valid_behind-requires-clause-next : goal.valid_behind-requires-clause-next
+valid_behind-requires-clause-next c = record {
   tests = tests_more c.loop.b c.args.b.now (size_of c.args.tests.now.size) c.args.tests.now c.loop.invariant.adds.includes c.requires.tests;
   within = search rules;
   share = search rules;
 }
+
+pub valid_behind-requires-clause-valids : goal.valid_behind-requires-clause-valids
+valid_behind-requires-clause-valids c = subst (AreValids c.loop.b c.args.plan.now) (sym c.deref.ensures.value) (valids_of c.loop.b c.args.plan.now c.args.nets.now _ c.loop.outs.items c.loop.invariant.are)

@@ -11,11 +11,11 @@ use Rattle.edge_select.proofs.Bits.{counts_column}
 use Rattle.edge_select.proofs.Asked.{only_same, only_column}
 use Rattle.edge_select.proofs.frame_tests.column_test.Goals as goal
 
-pub column_register-requires-clause-counters : goal.column_register-requires-clause-counters
-column_register-requires-clause-counters c = own_size c.counters_of.new.b (size_of c.args.tests.now.size) c.in_ok-counters.counters c.in_ok-counters.ensures.counters
-
-pub column_register-requires-clause-band : goal.column_register-requires-clause-band
-column_register-requires-clause-band c = subst (λ (z : Size). IsBand z.width c.args.band) (sym c.in_ok-counters.ensures.counters.size_is) c.requires.band.band
+pub column_register-requires : goal.column_register-requires
+column_register-requires c = record {
+  counters = own_size c.counters_of.new.b (size_of c.args.tests.now.size) c.in_ok-counters.counters c.in_ok-counters.ensures.counters;
+  band = subst (λ (z : Size). IsBand z.width c.args.band) (sym c.in_ok-counters.ensures.counters.size_is) c.requires.band.band;
+}
 
 pub returns-in-Some : goal.returns-in-Some
 returns-in-Some c = record {

@@ -24,5 +24,5 @@ register_of-requires-clause-load c = (
   width_more c.next_row_test.new.b c.starts.new.b c.in_ok-test.ensures.logic.includes c.in_ok-begins.begins c.in_ok-begins.ensures.test.computes.net.declared ∙ c.in_ok-begins.ensures.test.computes.width,
 )
 
-pub next_row_test-requires-clause-counters : goal.next_row_test-requires-clause-counters
-next_row_test-requires-clause-counters c = counters_more c.starts.new.b c.args.b.now (size_of c.args.k.now.pixel.size) c.args.k.now c.in_ok-begins.ensures.logic.includes c.requires.counters
+pub next_row_test-requires : goal.next_row_test-requires
+next_row_test-requires c = record { start = c.requires.start; band = c.requires.band; counters = counters_more c.starts.new.b c.args.b.now (size_of c.args.k.now.pixel.size) c.args.k.now c.in_ok-begins.ensures.logic.includes c.requires.counters }

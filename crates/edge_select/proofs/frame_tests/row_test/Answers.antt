@@ -11,14 +11,12 @@ use Rattle.edge_select.proofs.Bits.{counts_row}
 use Rattle.edge_select.proofs.Asked.{only_same, only_row}
 use Rattle.edge_select.proofs.frame_tests.row_test.Goals as goal
 
-pub row_register-requires-clause-counters : goal.row_register-requires-clause-counters
-row_register-requires-clause-counters c = own_size c.counters_of.new.b (size_of c.args.tests.now.size) c.in_ok-counters.counters c.in_ok-counters.ensures.counters
-
-pub row_register-requires-clause-band : goal.row_register-requires-clause-band
-row_register-requires-clause-band c = subst (λ (z : Size). IsBand z.height c.args.band) (sym c.in_ok-counters.ensures.counters.size_is) c.requires.band.band
-
-pub row_register-requires-clause-start : goal.row_register-requires-clause-start
-row_register-requires-clause-start c = subst (λ (z : Size). c.args.start < z.width) (sym c.in_ok-counters.ensures.counters.size_is) c.requires.start
+pub row_register-requires : goal.row_register-requires
+row_register-requires c = record {
+  counters = own_size c.counters_of.new.b (size_of c.args.tests.now.size) c.in_ok-counters.counters c.in_ok-counters.ensures.counters;
+  start = subst (λ (z : Size). c.args.start < z.width) (sym c.in_ok-counters.ensures.counters.size_is) c.requires.start;
+  band = subst (λ (z : Size). IsBand z.height c.args.band) (sym c.in_ok-counters.ensures.counters.size_is) c.requires.band.band;
+}
 
 pub returns-in-Some : goal.returns-in-Some
 returns-in-Some c = record {

@@ -1,6 +1,18 @@
-use Rattle.std.proofs.Common.{inr}
+use Rattle.std.proofs.Common.{inr, ◌∙◌}
+use Rattle.net_build.proofs.Grown.{net_more, width_more}
+use Rattle.edge_select.proofs.Combining.{bit_more}
 use Rattle.edge_select.proofs.Beside.{register_adds}
 use Rattle.edge_select.proofs.registers.register_of.Goals as goal
+
+pub choice_of-requires : goal.choice_of-requires
+choice_of-requires c =
+    let b = c.reg.new.self in
+    let grows = c.reg.ensures.includes in
+    record {
+      load = bit_more b c.args.b.now c.args.load grows c.requires.load;
+      test = record { net = net_more b c.args.b.now grows c.args.test c.requires.test.net; width = width_more b c.args.b.now grows c.args.test c.requires.test.net.declared ∙ c.requires.test.width };
+      register = record { net = c.in_ok-register.ensures.net; width = c.in_ok-register.ensures.width };
+    }
 
 pub returns : goal.returns
 returns c =
