@@ -25,9 +25,6 @@ none_left [] (suc k) l = refl
 none_left (x ∷ xs) zero l = absurd (omega (arith, l))
 none_left (x ∷ xs) (suc k) l = none_left xs k (omega (arith, l))
 
-not_lt : (a b : ℕ) → b ≤ a → nat_lt a b ≡ false
-not_lt a b h = grind arith
-
 -- the long segments, one after another
 pub long_more : (least low : ℕ) (ages : List ℕ) (k : ℕ) (before : List ℕ) → k < length ages → least < slice_index ages k - low
     → (before ++ (slice_index ages k - low) ∷ []) ++ filter (nat_lt least) (segments (slice_index ages k) (drop (k + 1) ages)) ≡ before ++ filter (nat_lt least) (segments low (drop k ages))
@@ -35,15 +32,6 @@ long_more least low ages k before there over =
     append_assoc before ((slice_index ages k - low) ∷ []) (filter (nat_lt least) (segments (slice_index ages k) (drop (k + 1) ages)))
     ∙ ap (λ (b : Bool). before ++ cond b ((slice_index ages k - low) ∷ filter (nat_lt least) (segments (slice_index ages k) (drop (k + 1) ages))) (filter (nat_lt least) (segments (slice_index ages k) (drop (k + 1) ages)))) (sym (lt_is least (slice_index ages k - low) over))
     ∙ ap (λ (xs : List ℕ). before ++ filter (nat_lt least) (segments low xs)) (sym (drop_here ages k 0 there))
-
-pub long_less : (least low : ℕ) (ages : List ℕ) (k : ℕ) (before : List ℕ) → k < length ages → slice_index ages k - low ≤ least
-    → before ++ filter (nat_lt least) (segments (slice_index ages k) (drop (k + 1) ages)) ≡ before ++ filter (nat_lt least) (segments low (drop k ages))
-long_less least low ages k before there under =
-    ap (λ (b : Bool). before ++ cond b ((slice_index ages k - low) ∷ filter (nat_lt least) (segments (slice_index ages k) (drop (k + 1) ages))) (filter (nat_lt least) (segments (slice_index ages k) (drop (k + 1) ages)))) (sym (not_lt least (slice_index ages k - low) under))
-    ∙ ap (λ (xs : List ℕ). before ++ filter (nat_lt least) (segments low xs)) (sym (drop_here ages k 0 there))
-
-pub long_none : (least low : ℕ) (ages : List ℕ) (k : ℕ) (before : List ℕ) → length ages ≤ k → before ++ filter (nat_lt least) (segments low (drop k ages)) ≡ before
-long_none least low ages k before over = ap (λ (xs : List ℕ). before ++ filter (nat_lt least) (segments low xs)) (none_left ages k over) ∙ append-nil before
 
 -- those of several images
 pub images_more : {X : Type 0} (test : ℕ → Bool) (f : X → List ℕ) (xs : List X) (k : ℕ) (d : X) (before : List ℕ) → k < length xs
@@ -160,9 +148,6 @@ long_is words first =
 -- single words, from an age up to another
 pub singles_more : (age high : ℕ) → age < high → ages_after age (replicate (high - age) 1) ≡ (age + 1) ∷ ages_after (age + 1) (replicate (high - (age + 1)) 1)
 singles_more age high less = ap (λ (n : ℕ). ages_after age (replicate n 1)) (let e : high - age ≡ suc (high - (age + 1)) = omega (arith, less) in e)
-
-pub singles_none : (age high : ℕ) → high ≤ age → ages_after age (replicate (high - age) 1) ≡ []
-singles_none age high over = ap (λ (n : ℕ). ages_after age (replicate n 1)) (let e : high - age ≡ 0 = omega (arith, over) in e)
 
 abbrev pub total : List ℕ → ℕ
 total [] = 0

@@ -4,6 +4,8 @@ use Rattle.std.specs.List.Sorted.{IsNonDecreasing}
 use Rattle.std.specs.List.{AllZip}
 use Rattle.dk_base.specs.declared.stencils.Image.{Image}
 use Rattle.buffer_plan.specs.Plans.{Plan, ages_of}
+use Rattle.circuit.specs.Taps.{Keeps}
+use Rattle.circuit.specs.Splits.{split_ages}
 use Rattle.circuit.specs.declared.splits.TheConstants.{MAX_REGISTERS}
 
 -- the words of the segments of a chain: from `low` to the first age, and from each age to the next
@@ -43,6 +45,10 @@ pub record AreDivided (least : ℕ) (all : List ℕ) (low : ℕ) (ages split : L
 -- the divided ages of each kept image, in order
 abbrev pub AreSplits : (least : ℕ) → Plan → (splits : List (List ℕ)) → Type 0
 AreSplits least plan splits = AllZip (λ (i : Image) split. AreDivided least (all_segments plan) 0 (ages_of plan i.number) split) plan.system.stencils.images splits
+
+-- The chain of each kept image is over its divided ages.
+abbrev pub AreChainsDivided : (least : ℕ) → Plan → (proposed : List (List ℕ)) → Type 0
+AreChainsDivided least plan proposed = (g : ℕ) → Keeps plan g → AreDivided least (all_segments plan) 0 (ages_of plan g) (split_ages proposed plan g)
 
 -- Used by private functions only.
 -- the words of the long segments, ascending

@@ -3,7 +3,7 @@
 ghost use Rattle.std.specs.Prelude.{◌≡◌, ◌++◌, ◌-◌, ◌+◌, ◌<◌, ◌≤◌, ℕ, List, ◌∷◌, Contains, filter, flat_map, nat_lt, replicate, IfOk, MatchOption, OnOk};
 ghost use Rattle.std.specs.List.Sorted.{IsNonDecreasing, IsStrictlyIncreasing};
 ghost use Rattle.circuit.specs.Splits.{lists_of};
-ghost use Rattle.circuit.specs.Divided.{segments, all_segments, IsShortest, AreArraysOf, ages_after, AreDivided, AreSplits, AreLong, IsLeastFrom, AddsArrays};
+ghost use Rattle.circuit.specs.Divided.{segments, all_segments, IsShortest, AreArraysOf, ages_after, AreDivided, AreSplits, AreChainsDivided, AreLong, IsLeastFrom, AddsArrays};
 
 use buffer_plan::Plan;
 use dk_base::OutOfMemory;
@@ -148,7 +148,9 @@ fn divided(
 ///
 /// A segment of more than `least` words is long. Its array is one word shorter than the shortest long segment of the plan that is at most `MAX_REGISTERS` words shorter than it, and what is left are single words: at least one, which is a register after the block memory. Another segment of at most `MAX_REGISTERS` words becomes single words, and any other stays one array.
 pub fn finer_ages(alloc: Global, plan: &Plan, least: u32) -> Result<Vec<Vec<u64>>, OutOfMemory>
-    ensures { IfOk result (λ splits. AreSplits least plan.now (lists_of splits.items)) }
+    ensures splits { IfOk result (λ splits. AreSplits least plan.now (lists_of splits.items)) }
+    ensures taken { IfOk result (λ splits. 0 < least
+        → AreChainsDivided least plan.now (lists_of splits.items)) }
 {
     plan.law();
     let lengths = long_lengths(alloc, plan, least)?;

@@ -4,6 +4,7 @@ use Rattle.std.specs.Prelude.{slice_index_or, Contains, Vec}
 use Rattle.std.specs.declared.alloc.Global.{Global}
 use Rattle.dk_base.specs.declared.stencils.Image.{Image}
 use Rattle.buffer_plan.specs.Plans.{Plan, ages_of}
+use Rattle.buffer_plan.proofs.Aged.{are_ages}
 use Rattle.circuit.specs.Splits.{lists_of}
 use Rattle.circuit.specs.Divided.{all_segments, segments, AreDivided, AreLong, AreSplits}
 use Rattle.circuit.proofs.Adding.{image_at}
@@ -48,8 +49,11 @@ loop-image-preserved c = λ rest each.
     let here : AllZip (Has c.args.least plan) (drop k images) (c.in_ok-split.split.items ∷ rest) = subst (λ (l : List Image). AllZip (Has c.args.least plan) l (c.in_ok-split.split.items ∷ rest)) (sym (drop_here images k none c.loop-image-test.true)) (one, each) in
     subst (AreSplits c.args.least plan) (sym (ap (λ (l : List (Vec ℕ Global)). lists_of l ++ rest) c.in_ok-push.ensures.items ∙ lists_more c.loop-image.splits.items c.in_ok-split.split rest)) (c.loop-image.invariant (c.in_ok-split.split.items ∷ rest) here)
 
-pub returns : goal.returns
-returns c =
+pub returns-clause-splits : goal.returns-clause-splits
+returns-clause-splits c =
     let images : List Image = c.images-images.result.now in
     subst (AreSplits c.args.least c.args.plan.now) (append-nil (lists_of c.loop-image.splits.items))
     (c.loop-image.invariant [] (subst (λ (l : List Image). AllZip (Has c.args.least c.args.plan.now) l []) (sym (none_left images c.loop-image.image-index (omega arith))) tt))
+
+pub returns-clause-taken : goal.returns-clause-taken
+returns-clause-taken c = λ some g keeps. divided_taken c.args.least c.args.plan.now (lists_of c.loop-image.splits.items) some (returns-clause-splits c) g keeps (are_ages c.args.plan.now g).ascending
