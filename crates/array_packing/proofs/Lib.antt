@@ -4,4 +4,5 @@ pub mod Inner
 pub mod Whole
 pub mod Seen
 pub mod Reached
+pub mod Marking
 pub mod Places

@@ -120,4 +120,5 @@ module _ (m : Netlist) (rules : KeepsRules m) where
     filled = λ g s e. subst (IsFilledTo slots g) (let h : 0 + s.width ≡ s.width = omega arith in h) (more g (whole_slot g s) (slot_at g s e) refl empty);
     arrays = refl;
     bits = λ k is. is;
+    once = λ are. are;
   }

@@ -1,5 +1,5 @@
 -- A netlist whose arrays are packed: each word of an array of the old netlist is some bits of a word of an array of the new one.
-use Rattle.std.specs.Prelude.{◌≡◌, ℕ, suc, ◌+◌, ◌<◌, ◌/◌, ◌%◌, ◌^◌, ◌≤◌, List, length, map, take, slice_get, slice_index_or, Some, Contains, All, [], ◌∷◌}
+use Rattle.std.specs.Prelude.{◌≡◌, ℕ, Bool, false, if◌then◌else◌, suc, ◌+◌, ◌<◌, ◌/◌, ◌%◌, ◌^◌, ◌≤◌, List, length, map, take, slice_get, slice_index_or, Some, Contains, All, [], ◌∷◌}
 use Rattle.std.specs.List.{AllZip}
 use Rattle.wiring.specs.declared.right.Atom.{Atom}
 use Rattle.wiring.specs.declared.right.Atom.TheVariants as atom
@@ -13,6 +13,7 @@ use Rattle.wiring.specs.declared.netlist.Update.TheVariants.{Set, Put}
 use Rattle.wiring.specs.Rights.{atom_width}
 use Rattle.wiring.specs.Netlist.{Netlist, net_width, word_width}
 use Rattle.wiring.specs.BufferBits.{IsBufferBits, array_bits}
+use Rattle.net_build.specs.Indices.{indices_of, read_indices, put_indices}
 use Rattle.array_packing.specs.declared.slots.Slot.{Slot}
 use Rattle.module_pass.specs.Simulation.{View}
 
@@ -93,14 +94,33 @@ pub data IsFilledTo (slots : List Slot) (array : ℕ) : ℕ → Type 0 where
 abbrev pub AreFilled : Netlist → List Slot → Type 0
 AreFilled new slots = (g : ℕ) (s : Shape) → slice_get new.arrays g ≡ Some s → IsFilledTo slots g s.width
 
+-- each array is read by one assign, and put by one update
+pub record IsAccessedOnce (m : Netlist) (x : ℕ) : Type 0 where
+  pub read : length (read_indices m x) ≡ 1
+  pub put : length (put_indices m x) ≡ 1
+
+abbrev pub AreAccessedOnce : Netlist → Type 0
+AreAccessedOnce m = (x : ℕ) → x < length m.arrays → IsAccessedOnce m x
+
 -- The new netlist is the old one with its arrays packed: no bit of a word is unused, and the array bits and the buffer bits are the same numbers.
 pub record IsPacking (new old : Netlist) (slots : List Slot) : Type 0 where
   pub packed : IsPacked new old slots
   pub filled : AreFilled new slots
   pub arrays : array_bits new.arrays ≡ array_bits old.arrays
   pub bits : (k : ℕ) → IsBufferBits old k → IsBufferBits new k
+  -- where each old array is read by one assign and put by one update, so is each new one
+  pub once : AreAccessedOnce old → AreAccessedOnce new
 
 -- Used by private functions only.
+-- 1 if this array was accessed
+abbrev pub marked : List Bool → ℕ → ℕ
+marked seen x = if slice_index_or seen x false then 1 else 0
+
+-- which arrays were accessed, before and after these accesses, each of another array
+pub record Marks (old new : List Bool) (accesses : List (ℕ × Atom Net)) : Type 0 where
+  pub size : length new ≡ length old
+  pub each : (x : ℕ) → x < length old → marked new x ≡ marked old x + length (indices_of x accesses)
+
 -- what is in the inner value from its bit is in the outer one from its bit
 abbrev pub IsInner : Netlist → (outer : Atom Net) → ℕ → (inner : Atom Net) → ℕ → Type 0
 IsInner new outer low inner rest = (part : Atom Net) → HoldsPart new part inner rest → HoldsPart new part outer low

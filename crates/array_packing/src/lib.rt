@@ -6,6 +6,7 @@ mod filled;
 mod groups;
 mod laws;
 mod nets;
+mod once;
 mod packing;
 mod proposal;
 mod slots;

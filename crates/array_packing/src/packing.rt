@@ -2,10 +2,11 @@
 
 ghost use Rattle.std.specs.Prelude.{◌≡◌, ℕ, IsTrue, IfOk, IfSome};
 ghost use Rattle.net_build.specs.Naming.{names_for};
-ghost use Rattle.array_packing.specs.Packing.{IsPacked, AreFilled, IsPacking};
+ghost use Rattle.array_packing.specs.Packing.{IsPacked, AreFilled, AreAccessedOnce, IsPacking};
 
 use crate::check::{Hints, is_packed};
 use crate::filled::are_filled;
+use crate::once::are_accessed_once;
 use crate::proposal::propose;
 use crate::slots::{Slot, whole_slots};
 use dk_base::OutOfMemory;
@@ -36,7 +37,15 @@ fn is_full(alloc: Global, new: &Module, slots: &[Slot]) -> Result<bool, OutOfMem
     Ok(full)
 }
 
-// The same, and whether it has as many array bits and buffer bits, and no bit is unused.
+// Whether each array of the module is read by one assign and put by one update.
+fn is_accessed_once(alloc: Global, new: &Module) -> Result<bool, OutOfMemory>
+    ensures { IfOk result (λ is. IsTrue is → AreAccessedOnce new.now.netlist) }
+{
+    let once = are_accessed_once(alloc, new.wiring())?;
+    Ok(once)
+}
+
+// Whether the netlist is the other one with its arrays packed, each array is accessed once, it has as many array bits and buffer bits, and no bit is unused.
 fn is_packing(
     alloc: Global,
     new: &Module,
@@ -51,6 +60,10 @@ fn is_packing(
     }
     let full = is_full(alloc, new, slots)?;
     if !full {
+        return Ok(false);
+    }
+    let once = is_accessed_once(alloc, new)?;
+    if !once {
         return Ok(false);
     }
     if !same_array_bits(new, old) {

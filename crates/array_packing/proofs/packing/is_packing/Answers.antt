@@ -7,4 +7,5 @@ returns c h = record {
   filled = c.in_ok-full.ensures (search rules);
   arrays = c.same_array_bits.ensures (search rules);
   bits = c.in_ok-same.ensures h;
+  once = λ old. c.in_ok-once.ensures (search rules);
 }
