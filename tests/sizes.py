@@ -19,7 +19,7 @@ TOP = Path(__file__).resolve().parent.parent
 MOST_CHAIN, MOST_LINES, MOST_FUNCTIONS, MOST_ARGUMENTS = 8, 1500, 110, 6
 MANY_CLAUSES, WIDE = 15, 100
 # The crates that have more than MOST_LINES with their clauses: none of them may grow.
-ALL_LINES = {"dk_top": 2291, "circuit": 1560, "netlist": 1524}
+ALL_LINES = {"dk_top": 2291, "circuit": 1554, "netlist": 1524}
 FUNCTION = re.compile(r"^\s*(?:pub(?:\([a-z]+\))?\s+)?(?:const\s+)?(?:unsafe\s+)?fn \w+.*")
 TRAIT = re.compile(r"^impl\b.*\bfor\b")
 

@@ -170,6 +170,7 @@ packed_circuit p plan enable block m old slots nets reads order program rules or
   circuit = circuit;
   slots = slots;
   packing = packing;
+  once = packing.once (λ x low. let one = circuit.once x low in record { read = ap length one.read; put = ap length one.put });
   registers = packing.packed.regs;
   depth = λ base wide nets_in arrays_in n net is. packed_within m old slots packing.packed base wide nets_in arrays_in n net is;
   none = none;

@@ -12,7 +12,7 @@ use Rattle.net_build.specs.Runs.{IsClockOf, IsWhole, RunsOn, IsReady}
 use Rattle.net_build.specs.Depth.{IsWithin}
 use Rattle.array_packing.specs.declared.slots.Slot.{Slot}
 use Rattle.module_pass.specs.Simulation.{View}
-use Rattle.array_packing.specs.Packing.{IsPacking, packed}
+use Rattle.array_packing.specs.Packing.{AreAccessedOnce, IsPacking, packed}
 use Rattle.pointwise_ir.specs.Programs.{Program}
 use Rattle.buffer_plan.specs.Plans.{Plan, delay_of, depth_of, latency_of, read_age}
 use Rattle.line_buffer.specs.Streams.{IsPixel, BufferIsRight}
@@ -67,6 +67,8 @@ pub record IsPackedCircuitOf (p : Program) (plan : Plan) (enable : Bool) (block 
   -- where each array of the circuit is in the module
   pub slots : List Slot
   pub packing : IsPacking m unpacked slots
+  -- each array of the module is read by one assign and put by one update
+  pub once : AreAccessedOnce m
   -- no register and no operator is added
   pub registers : m.regs ≡ unpacked.regs
   pub depth : KeepsDepth m unpacked slots
