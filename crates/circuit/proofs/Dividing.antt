@@ -1,7 +1,6 @@
 -- Chains that are divided for block memories.
-use Rattle.std.proofs.Common.{◌≡◌, ℕ, zero, suc, ◌+◌, ◌-◌, ◌<◌, ◌≤◌, Bool, true, false, cond, List, [], ◌∷◌, ◌++◌, length, drop, replicate, filter, flat_map, map, nat_lt, Contains, refl, sym, ap, subst, ◌∙◌, inl, inr, arith, append_assoc, append-nil}
-use Rattle.std.specs.Prelude.{IsTrue, slice_index, slice_index_or, MatchResult, Ok, Err, Result, Vec}
-use Rattle.std.specs.List.{AllZip}
+use Rattle.std.proofs.Common.{◌≡◌, ℕ, zero, suc, ◌+◌, ◌-◌, ◌<◌, ◌≤◌, Bool, true, false, cond, List, [], ◌∷◌, ◌++◌, length, drop, replicate, filter, flat_map, nat_lt, Contains, refl, sym, ap, subst, ◌∙◌, inl, inr, arith, append_assoc, append-nil}
+use Rattle.std.specs.Prelude.{slice_index, slice_index_or, MatchResult, Ok, Err, Result, Vec}
 use Rattle.std.specs.declared.alloc.Global.{Global}
 use Rattle.std.proofs.lemmas.List.Elements.{filter-append}
 use Rattle.std.specs.List.Sorted.{IsBinarySearchResult, IsNonDecreasing}
@@ -12,7 +11,7 @@ use Rattle.std.proofs.lemmas.List.Sorted.{searched}
 use Rattle.line_buffer.proofs.More.{lt_is, is_lt}
 use Rattle.circuit.specs.declared.splits.TheConstants.{MAX_REGISTERS}
 use Rattle.circuit.specs.Splits.{lists_of}
-use Rattle.circuit.specs.Divided.{segments, IsShortest, AreArraysOf, by_memory, by_registers, by_array, ages_after, AreDivided, AreLong, IsLeastFrom, AddsArrays}
+use Rattle.circuit.specs.Divided.{segments, IsShortest, AreArraysOf, by_memory, by_registers, by_array, ages_after, AreDivided, AreLong, IsLeastFrom}
 
 pub drop_here : {X : Type 0} (xs : List X) (k : ℕ) (d : X) → k < length xs → drop k xs ≡ slice_index_or xs k d ∷ drop (k + 1) xs
 drop_here [] k d low = absurd (omega (arith, low))

@@ -1,5 +1,4 @@
-use Rattle.std.proofs.Common.{◌≡◌, ℕ, List, ◌++◌, ◌-◌, ◌∷◌, [], append-nil, replicate, sym, ap, ◌∙◌, arith}
-use Rattle.circuit.specs.Divided.{ages_after}
+use Rattle.std.proofs.Common.{◌-◌, ◌∷◌, [], append-nil, replicate, sym, arith}
 use Rattle.circuit.proofs.Dividing.{first_within, no_arrays}
 use Rattle.circuit.proofs.splits.add_arrays.Goals as goal
 

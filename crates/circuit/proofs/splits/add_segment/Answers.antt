@@ -1,4 +1,4 @@
-use Rattle.std.proofs.Common.{◌≡◌, ℕ, ◌+◌, ◌-◌, ◌∷◌, ◌++◌, [], List, ap, sym, ◌∙◌, append_assoc, replicate}
+use Rattle.std.proofs.Common.{ℕ, ◌+◌, ◌-◌, ◌∷◌, ◌++◌, [], List, ap, sym, ◌∙◌, append_assoc, replicate}
 use Rattle.circuit.specs.Divided.{ages_after}
 use Rattle.circuit.proofs.Dividing.{singles_more}
 use Rattle.circuit.proofs.splits.add_segment.Goals as goal

@@ -1,4 +1,4 @@
-use Rattle.std.proofs.Common.{◌+◌, ℕ, sym, subst, arith}
+use Rattle.std.proofs.Common.{ℕ, subst, arith}
 use Rattle.circuit.specs.Divided.{IsShortest}
 use Rattle.circuit.proofs.Dividing.{shortest_is, never_none}
 use Rattle.circuit.proofs.splits.array_words.Goals as goal

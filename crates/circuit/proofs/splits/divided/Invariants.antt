@@ -1,4 +1,4 @@
-use Rattle.std.proofs.Common.{◌≡◌, ◌++◌, ◌<◌, ◌≤◌, ℕ, List, drop, length, Contains}
+use Rattle.std.proofs.Common.{◌++◌, ◌<◌, ◌≤◌, ℕ, List, drop, length, Contains}
 use Rattle.std.specs.Prelude.{slice_index}
 use Rattle.circuit.specs.Divided.{segments, AreDivided, AreLong}
 use Rattle.circuit.proofs.splits.divided.Given as goal

@@ -1,4 +1,4 @@
-use Rattle.circuit.proofs.Dividing.{found, missed, none_from}
+use Rattle.circuit.proofs.Dividing.{found, missed}
 use Rattle.circuit.proofs.splits.least_from.Goals as goal
 
 pub returns-in-Ok : goal.returns-in-Ok

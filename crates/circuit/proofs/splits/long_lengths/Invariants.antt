@@ -1,4 +1,4 @@
-use Rattle.std.proofs.Common.{◌≡◌, ◌++◌, ℕ, drop, filter, flat_map, nat_lt}
+use Rattle.std.proofs.Common.{◌≡◌, ◌++◌, drop, filter, flat_map, nat_lt}
 use Rattle.dk_base.specs.declared.stencils.Image.{Image}
 use Rattle.buffer_plan.specs.Plans.{ages_of}
 use Rattle.circuit.specs.Divided.{segments, all_segments}
