@@ -1,13 +1,10 @@
 // The types of expressions.
 
-ghost use Rattle.std.specs.Prelude.{◌≡◌, ◌≤◌, IfOk, IfErr};
-ghost use Rattle.dk_base.specs.declared.TheConstants.{MAX_OFFSET};
 ghost use Rattle.dk_base.specs.Types.{IsType};
 ghost use Rattle.dk_parser.specs.Tree.{tree_of, ConvertsToTypes};
 ghost use Rattle.dk_parser.specs.Tree as T;
 ghost use Rattle.dk_types.specs.Scopes.{Scope as Names};
-ghost use Rattle.dk_types.specs.Offsets.{offset_of, amount_of};
-ghost use Rattle.dk_types.specs.Found.{Judged, IsTypedAs, IsOperand, IsFarAt};
+ghost use Rattle.dk_types.specs.Found.{IsOffset, IsOperand, IsTypedAs, Judged};
 
 use crate::fault::{TypeError, TypeFaultKind, fault};
 use crate::operators;
@@ -19,8 +16,7 @@ use std::alloc::Global;
 
 // An offset as a number, or where it is too great.
 fn offset(offset: Option<Offset>) -> Result<i32, Span>
-    ensures near { IfOk result (λ v. (v ≡ offset_of offset) × (amount_of offset ≤ MAX_OFFSET)) }
-    ensures far { IfErr result (λ s. IsFarAt offset s) }
+    ensures { IsOffset offset result }
 {
     let Some(offset) = offset else {
         return Ok(0);

@@ -1,6 +1,6 @@
 // The types of what operators give, or the operators' own faults.
 
-ghost use Rattle.std.specs.Prelude.{◌≡◌, Some, true, IsTrue, ◌↔◌, IfOk, IfErr, MatchOption};
+ghost use Rattle.std.specs.Prelude.{◌≡◌, true, IsTrue, ◌↔◌, MatchOption};
 ghost use Rattle.dk_base.specs.declared.ty.Ty.{Ty};
 ghost use Rattle.dk_base.specs.Types.{IsType};
 ghost use Rattle.dk_base.specs.Operators.{unary_type as type_of_unary, binary_type as type_of_binary, are_operands, scaling_type as type_of_scaling, select_type as type_of_select};
@@ -10,6 +10,7 @@ ghost use Rattle.dk_types.specs.Scopes.{Scope};
 ghost use Rattle.dk_types.specs.Typed.{Typed, type_of};
 ghost use Rattle.dk_types.specs.Types.{HasType};
 ghost use Rattle.dk_types.specs.Faults.{Faulty, Stops};
+ghost use Rattle.dk_types.specs.Found.{GivesType};
 ghost use Rattle.dk_types.specs.declared.fault.TypeFaultKind.TheVariants.{SignedBits};
 
 use crate::fault::{TypeError, TypeFaultKind, fault};
@@ -24,12 +25,10 @@ pub(crate) fn unary_type(
     operand: Ty,
 ) -> Result<Ty, TypeError>
     requires { IsType operand }
-    ensures typed { IfOk result (λ t. type_of_unary operator operand ≡ Some t) }
-    ensures is_type { IfOk result (λ t. IsType t) }
-    ensures faulty { IfErr result
+    ensures { GivesType (type_of_unary operator operand)
         (λ stop. (scope : Scope) (a : Tree) (e : Typed) → HasType scope a e → type_of e ≡ operand
         → span_of a ≡ first
-        → Stops (Faulty scope (T.unary span operator a)) stop) }
+        → Stops (Faulty scope (T.unary span operator a)) stop) result }
 {
     match operator.result_type(operand) {
         Some(ty) => Ok(ty),
@@ -78,13 +77,11 @@ pub(crate) fn binary_type(
 ) -> Result<Ty, TypeError>
     requires left { IsType left }
     requires right { IsType right }
-    ensures typed { IfOk result (λ t. type_of_binary operator left right ≡ Some t) }
-    ensures is_type { IfOk result (λ t. IsType t) }
-    ensures faulty { IfErr result
+    ensures { GivesType (type_of_binary operator left right)
         (λ stop. (scope : Scope) (a b : Tree) (e f : Typed) → HasType scope a e → HasType scope b f
         → type_of e ≡ left
         → type_of f ≡ right → span_of a ≡ first → span_of b ≡ second
-        → Stops (Faulty scope (T.binary span operator a b)) stop) }
+        → Stops (Faulty scope (T.binary span operator a b)) stop) result }
 {
     if let Some(stop) = signed_operand(span, operator, first, left, second, right) {
         return Err(stop);
@@ -103,11 +100,9 @@ pub(crate) fn scale_type(
     by: Literal,
 ) -> Result<Ty, TypeError>
     requires { IsType operand }
-    ensures typed { IfOk result (λ t. type_of_scaling operator operand by.value ≡ Some t) }
-    ensures is_type { IfOk result (λ t. IsType t) }
-    ensures faulty { IfErr result
+    ensures { GivesType (type_of_scaling operator operand by.value)
         (λ stop. (scope : Scope) (a : Tree) (e : Typed) → HasType scope a e → type_of e ≡ operand
-        → Stops (Faulty scope (T.scale span operator a by)) stop) }
+        → Stops (Faulty scope (T.scale span operator a by)) stop) result }
 {
     match operator.result_type(operand, by.value) {
         Some(ty) => Ok(ty),
@@ -140,13 +135,11 @@ pub(crate) fn select_type(
 ) -> Result<Ty, TypeError>
     requires left { IsType left }
     requires right { IsType right }
-    ensures typed { IfOk result (λ t. type_of_select condition left right ≡ Some t) }
-    ensures is_type { IfOk result (λ t. IsType t) }
-    ensures faulty { IfErr result
+    ensures { GivesType (type_of_select condition left right)
         (λ stop. (scope : Scope) (c a b : Tree) (d e f : Typed) → HasType scope c d
         → HasType scope a e → HasType scope b f
         → type_of d ≡ condition → type_of e ≡ left → type_of f ≡ right → span_of c ≡ first
-        → Stops (Faulty scope (T.select span c a b)) stop) }
+        → Stops (Faulty scope (T.select span c a b)) stop) result }
 {
     match dk_base::select_type(condition, left, right) {
         Some(ty) => Ok(ty),

@@ -1,5 +1,5 @@
 -- The lanes of rows, and the expressions that they can compute.
-use Rattle.std.specs.Prelude.{◌≡◌, ℕ, ◌<◌, ◌≤◌, ℤ, List, length}
+use Rattle.std.specs.Prelude.{◌≡◌, ℕ, ◌+◌, ◌*◌, ◌<◌, ◌≤◌, ℤ, List, length}
 use Rattle.dk_base.specs.declared.TheConstants.{MAX_INLINED_DEPTH}
 use Rattle.dk_base.specs.declared.ty.Ty.{Ty}
 use Rattle.dk_base.specs.declared.ty.Ty.TheVariants.{Signed}
@@ -40,6 +40,15 @@ pub record FitsRows (lane_of ty : Ty) (size : Size) (planes : List Plane) (e : T
   pub typed : AreAllIn size (all_shown size planes) e ty
   -- it is not too deep for the rows that it needs
   pub depth : depth_of e ≤ MAX_INLINED_DEPTH
+
+-- Row y of the frame, and memory for the values of an expression along it.
+pub record HasRowMemory (size : Size) (e : Tree) (y to scratch : ℕ) : Type 0 where
+  -- it is a row of the frame
+  pub down : y < size.height
+  -- there is a row to write
+  pub row : to ≡ size.width
+  -- and two rows for each level of the expression
+  pub room : depth_of e * (size.width + size.width) ≤ scratch
 
 -- a lane of this type can have row y of values in raster order
 pub record IsReadable (lane : Ty) (size : Size) (values : List ℤ) (y : ℕ) : Type 0 where

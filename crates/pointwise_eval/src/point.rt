@@ -9,7 +9,7 @@ use dk_base::FrameSize;
 use pointwise_ir::Edge;
 
 // A pixel: its column and its row.
-#[derive(Clone, Copy, Debug)]
+#[derive(Clone, Copy)]
 pub struct Point {
     pub x: u32,
     pub y: u32,

@@ -2,13 +2,13 @@
 
 ghost use Rattle.std.specs.Prelude.{◌≡◌, ℕ, map, ◌+◌, ◌*◌, ◌<◌, ◌≤◌, pos, ◌+ℤ◌, length, Some, slice_get, MatchOption};
 ghost use Rattle.dk_base.specs.FrameSizes.{size_of};
-ghost use Rattle.pointwise_ir.specs.Trees.{tree_of, depth_of};
+ghost use Rattle.pointwise_ir.specs.Trees.{tree_of};
 ghost use Rattle.pointwise_ir.specs.Meaning.{value};
 ghost use Rattle.value_rows.specs.Rows.{entry, IsRow, IsNarrow};
 ghost use Rattle.pointwise_eval.specs.Planes.{values_of, shown, all_shown, IsByRows, HasRows};
 ghost use Rattle.pointwise_eval.specs.Steps.{LeadsNowhere, LeadsToRow, ReadsRow};
 ghost use Rattle.dk_base.specs.Types.{IsIn};
-ghost use Rattle.pointwise_eval.specs.Lanes.{FitsLane, IsReadable};
+ghost use Rattle.pointwise_eval.specs.Lanes.{FitsLane, HasRowMemory, IsReadable};
 
 use crate::plane::Plane;
 use crate::point::{brought, moved};
@@ -139,9 +139,8 @@ pub fn value_row<L: Element>(
     scratch: &mut [L],
 )
     requires lane { FitsLane L.ty (size_of size) planes.now (tree_of e.now) }
-    requires down { y < size.height }
-    requires row { length to.old ≡ size.width }
-    requires room { depth_of (tree_of e.now) * (size.width + size.width) ≤ length scratch.old }
+    requires memory { HasRowMemory (size_of size) (tree_of e.now) y
+        (length to.old) (length scratch.old) }
     ensures { IsRow (size_of size)
         (value (size_of size) (all_shown (size_of size) planes.now) (tree_of e.now))
         (pos y) (map L.worth to.new) }

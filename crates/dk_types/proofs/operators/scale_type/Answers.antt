@@ -1,10 +1,14 @@
 use Rattle.dk_types.proofs.Rules as R
 use Rattle.dk_types.proofs.operators.scale_type.Goals as goal
 
-pub returns-in-Divide-clause-faulty : goal.returns-in-Divide-clause-faulty
-returns-in-Divide-clause-faulty c = λ scope a e h te.
-    R.told_scale scope c.args.span c.args.operator a c.args.by e c.args.operand c.result_type.result c.fault.result _ c.fault.ensures
-    (R.divided c.args.operator c.args.span c.args.by c.in-Divide.is) c.result_type.ensures.value c.in-None.is h te
+pub returns-in-Divide : goal.returns-in-Divide
+returns-in-Divide c = record {
+  typed = tt;
+  is_type = tt;
+  faulty = λ scope a e h te.
+      R.told_scale scope c.args.span c.args.operator a c.args.by e c.args.operand c.result_type.result c.fault.result _ c.fault.ensures
+      (R.divided c.args.operator c.args.span c.args.by c.in-Divide.is) c.result_type.ensures.value c.in-None.is h te;
+}
 
 pub returns-in-ShiftLeft : goal.returns-in-ShiftLeft
 returns-in-ShiftLeft c = record {

@@ -57,7 +57,7 @@ returns-in-Some g t c =
     let reads : ReadsRow size c.in-Read.edge (picture_at (all_shown size c.args.planes.now) c.in-Read.image) c.in-Some.there c.in-Read.dx (map g.L.Element.worth c.read_plane.new.to) =
     subst (λ (p : Picture). ReadsRow size c.in-Read.edge p c.in-Some.there c.in-Read.dx (map g.L.Element.worth c.read_plane.new.to)) (sym (entry_shown size c.args.planes.now c.in-Read.image c.plane_of.result.now c.plane_of.ensures)) (search rules) in
     let some : 0 < c.args.size.width = search rules in
-    let long : length c.read_plane.new.to ≡ c.args.size.width = c.read_plane.auto.to ∙ c.requires.row in
+    let long : length c.read_plane.new.to ≡ c.args.size.width = c.read_plane.auto.to ∙ c.requires.memory.row in
     let leads : LeadsToRow c.in-Read.edge (pos c.args.y +ℤ c.in-Read.dy) c.args.size.height c.in-Some.there = search rules in
     rw c.in-Read.is (side_row g.L.Element.worth size c.in-Read.edge (picture_at (all_shown size c.args.planes.now) c.in-Read.image) c.in-Read.dx c.in-Read.dy c.args.y c.in-Some.there reads.row c.read_plane.new.to some long leads reads.is reads.placed)
 
