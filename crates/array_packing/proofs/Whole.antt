@@ -119,6 +119,6 @@ module _ (m : Netlist) (rules : KeepsRules m) where
     packed = packed_whole;
     filled = λ g s e. subst (IsFilledTo slots g) (let h : 0 + s.width ≡ s.width = omega arith in h) (more g (whole_slot g s) (slot_at g s e) refl empty);
     arrays = refl;
-    bits = λ k is. is;
+    bits = λ k. (λ is. is, λ is. is);
     once = λ are. are;
   }

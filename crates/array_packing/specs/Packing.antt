@@ -1,5 +1,5 @@
 -- A netlist whose arrays are packed: each word of an array of the old netlist is some bits of a word of an array of the new one.
-use Rattle.std.specs.Prelude.{◌≡◌, ℕ, Bool, false, if◌then◌else◌, suc, ◌+◌, ◌<◌, ◌/◌, ◌%◌, ◌^◌, ◌≤◌, List, length, map, take, slice_get, slice_index_or, Some, Contains, All, [], ◌∷◌}
+use Rattle.std.specs.Prelude.{◌≡◌, ◌↔◌, ℕ, Bool, false, if◌then◌else◌, suc, ◌+◌, ◌<◌, ◌/◌, ◌%◌, ◌^◌, ◌≤◌, List, length, map, take, slice_get, slice_index_or, Some, Contains, All, [], ◌∷◌}
 use Rattle.std.specs.List.{AllZip}
 use Rattle.wiring.specs.declared.right.Atom.{Atom}
 use Rattle.wiring.specs.declared.right.Atom.TheVariants as atom
@@ -107,7 +107,7 @@ pub record IsPacking (new old : Netlist) (slots : List Slot) : Type 0 where
   pub packed : IsPacked new old slots
   pub filled : AreFilled new slots
   pub arrays : array_bits new.arrays ≡ array_bits old.arrays
-  pub bits : (k : ℕ) → IsBufferBits old k → IsBufferBits new k
+  pub bits : (k : ℕ) → IsBufferBits old k ↔ IsBufferBits new k
   -- where each old array is read by one assign and put by one update, so is each new one
   pub once : AreAccessedOnce old → AreAccessedOnce new
 

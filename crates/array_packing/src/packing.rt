@@ -2,6 +2,7 @@
 
 ghost use Rattle.std.specs.Prelude.{◌≡◌, ℕ, IsTrue, IfOk, IfSome};
 ghost use Rattle.net_build.specs.Naming.{names_for};
+ghost use Rattle.module_pass.specs.Words.{word_bits};
 ghost use Rattle.array_packing.specs.Packing.{IsPacked, AreFilled, AreAccessedOnce, IsPacking};
 
 use crate::check::{Hints, is_packed};
@@ -10,7 +11,7 @@ use crate::once::are_accessed_once;
 use crate::proposal::propose;
 use crate::slots::{Slot, whole_slots};
 use dk_base::OutOfMemory;
-use module_pass::{made_module, same_array_bits, same_buffer_bits};
+use module_pass::{made_module, same_array_bits, same_buffer_bits, same_word_bits};
 use netlist::Module;
 use std::alloc::Global;
 
@@ -76,6 +77,8 @@ fn is_packing(
 // The module with packed arrays, or None where no arrays go together or a test declines.
 fn packed_module(alloc: Global, old: &Module, least: u32) -> Result<Option<Packed>, OutOfMemory>
     ensures packing { IfOk result (λ made. IfSome made (λ r. IsPacking r.«module».netlist old.now.netlist r.slots.items)) }
+    ensures words { IfOk result (λ made. IfSome made (λ r. word_bits least r.«module».netlist.arrays
+        ≡ word_bits least old.now.netlist.arrays)) }
     ensures named { IfOk result (λ made. IfSome made (λ r. r.«module».names ≡ names_for r.«module».netlist)) }
 {
     let Some(made) = propose(alloc, old.wiring(), least)? else {
@@ -85,6 +88,9 @@ fn packed_module(alloc: Global, old: &Module, least: u32) -> Result<Option<Packe
         return Ok(None);
     };
     if !is_packing(alloc, &module, old, &made.slots, &made.hints)? {
+        return Ok(None);
+    }
+    if !same_word_bits(&module, old, least) {
         return Ok(None);
     }
     let slots = made.slots;
@@ -104,6 +110,8 @@ fn unpacked(alloc: Global, old: Module) -> Result<Packed, OutOfMemory>
 pub fn pack(alloc: Global, old: Module, least: u32) -> Result<Packed, OutOfMemory>
     requires named { old.names ≡ names_for old.netlist }
     ensures packing { IfOk result (λ r. IsPacking r.«module».netlist old.netlist r.slots.items) }
+    ensures words { IfOk result (λ r. word_bits least r.«module».netlist.arrays
+        ≡ word_bits least old.netlist.arrays) }
     ensures named { IfOk result (λ r. r.«module».names ≡ names_for r.«module».netlist) }
 {
     match packed_module(alloc, &old, least)? {

@@ -36,6 +36,7 @@ use Rattle.circuit.specs.Driven.{Drives, Agree, driven, input_widths}
 use Rattle.dk_compile.specs.Fronts.{IsForm}
 use Rattle.dk_compile.specs.Limits.{IsAcceptedAt}
 use Rattle.dk_compile.specs.Compiled.{IsPlanned, IsCompiled}
+use Rattle.dk_compile.specs.Packed.{ahead_bits}
 use Rattle.same_phases.specs.Phases.{IsRound, output_picture}
 use Rattle.dk_compile.specs.Correct.{Frames, frame_at, Carries, type_of_image, HasProgramPorts, ShowsPictures, IsCorrect}
 use Rattle.dk_compile.proofs.Same.{long_inputs, round_of_form, by_form}
@@ -213,6 +214,7 @@ compiled_correct go accepted source age enable block p ir system solution plan m
   has = c.planned.has;
   vector = c.planned.solved.vector;
   all = λ none. subst (λ (n : Netlist). IsBufferBits n (array_bits n.arrays)) (sym (c.circuit.none none)) (plain none);
+  ahead = λ k is. subst (λ (n : ℕ). k ≤ n + ahead_bits block m.netlist.arrays) (sym (c.circuit.packing.arrays ∙ c.circuit.circuit.bits.arrays)) (c.circuit.bits k is);
   least = λ delays causal. subst (λ (n : ℕ). n ≤ bits system delays) (sym own_bits) (c.planned.solved.vector.least_bits delays causal);
 }
   where

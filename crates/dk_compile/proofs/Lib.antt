@@ -2,6 +2,7 @@ pub mod Once
 pub mod Ports
 pub mod Forms
 pub mod Counts
+pub mod Copied
 pub mod Apart
 pub mod Agreed
 pub mod Numbers

@@ -1,5 +1,5 @@
 -- A module that simulates a circuit does in its own runs what the circuit does.
-use Rattle.std.proofs.Common.{◌≡◌, ℕ, ◌+◌, Bool, true, ◌<◌, List, [], ◌∷◌, length, map, refl, sym, ap, subst, ◌∙◌, Option, None, Some}
+use Rattle.std.proofs.Common.{◌≡◌, ℕ, ◌+◌, Bool, true, ◌<◌, ◌≤◌, List, [], ◌∷◌, length, map, refl, sym, ap, subst, ◌∙◌, Option, None, Some, arith}
 use Rattle.std.specs.Prelude.{IsTrue, nat_le, not, ◌&&◌, if◌then◌else◌, slice_index, slice_get, replicate, All}
 use Rattle.std.proofs.lemmas.List.Elements.{All-nil, All-cons, All-head, All-tail}
 use Rattle.std.proofs.lemmas.List.{get_or-take}
@@ -7,7 +7,15 @@ use Rattle.std.proofs.lemmas.Option.{slice_get_within}
 use Rattle.dk_base.specs.declared.stencils.LiveRead.{LiveRead}
 use Rattle.wiring.specs.declared.netlist.Net.{Net}
 use Rattle.wiring.specs.declared.netlist.Net.TheVariants.{Input, Output, Wire, Reg}
+use Rattle.wiring.specs.declared.netlist.Shape.{Shape}
+use Rattle.wiring.specs.BufferBits.{IsBufferBits}
 use Rattle.wiring.specs.Netlist.{Netlist, dout_net}
+use Rattle.wiring.proofs.BitCounts.{same_count}
+use Rattle.module_pass.specs.Words.{word_bits}
+use Rattle.line_buffer.specs.Indices.{is_long}
+use Rattle.line_buffer.specs.Chains.{AreCopies}
+use Rattle.circuit.specs.Modules.{HasBits}
+use Rattle.dk_compile.proofs.Copied.{copies_within}
 use Rattle.wiring.specs.Snapshot.{Contents, Snapshot, Fit, FitsContents, IsNext, net_value}
 use Rattle.wiring.specs.Clock.{Clock, bit, given}
 use Rattle.wiring.specs.History.{is_held, counted}
@@ -27,7 +35,7 @@ use Rattle.array_packing.proofs.Simulating.{at_map, packed_simulates}
 use Rattle.array_packing.proofs.Seen.{contents_seen}
 use Rattle.array_packing.proofs.Whole.{whole_packing}
 use Rattle.pointwise_ir.specs.Programs.{Program, IsProgram}
-use Rattle.buffer_plan.specs.Plans.{Plan, delay_of, depth_of, latency_of}
+use Rattle.buffer_plan.specs.Plans.{Plan, bits_of, delay_of, depth_of, latency_of}
 use Rattle.line_buffer.specs.Streams.{IsPixel, BufferIsRight}
 use Rattle.line_buffer.specs.Places.{word_at}
 use Rattle.circuit.specs.Runs.{IsRunning}
@@ -39,7 +47,7 @@ use Rattle.circuit.specs.Driven.{Drives, input_widths, driven}
 use Rattle.circuit.proofs.Driven.{zeros_fit, given_fits, fed_fit}
 use Rattle.dk_compile.specs.Circuits.{IsCircuitOf, form_with}
 use Rattle.dk_compile.proofs.Deep.{packed_within}
-use Rattle.dk_compile.specs.Packed.{ShowsImage, BehavesAs, IsPackedCircuitOf}
+use Rattle.dk_compile.specs.Packed.{ShowsImage, BehavesAs, IsPackedCircuitOf, ahead_bits}
 
 -- a net of the circuit has its value in the module too
 abbrev pub KeepsNets : Netlist → View → Type 0
@@ -158,10 +166,16 @@ module _ (m old : Netlist) (v : View) (sim : Simulates m old v) (whole : IsWhole
       followed : (from to : Contents) (dins : List (List ℕ)) (shots : List Snapshot) → FitsContents m from → All (Fit (input_widths p)) dins → Runs m from (driven (length p.inputs) dins) shots to → Runs old (v.contents from) (driven (length p.inputs) dins) (map (seen v) shots) (v.contents to)
       followed from to dins shots start fit run = run_followed m old v sim whole.rules whole.order whole.ordered from to (driven (length p.inputs) dins) shots start (driven_fit dins fit) run
 
+-- The buffer bits of a circuit, by the arrays of the module.
+within_ahead : (plan : Plan) (block : Option ℕ) (old : Netlist) (arrays : List Shape) (copies : List ℕ) (k : ℕ) → HasBits old (bits_of plan) copies → AreCopies (is_long block) old copies old.arrays → (block ≡ None → copies ≡ [])
+    → ((least : ℕ) → block ≡ Some least → word_bits least arrays ≡ word_bits least old.arrays) → IsBufferBits old k → k ≤ bits_of plan + ahead_bits block arrays
+within_ahead plan None old arrays copies k bits widths none words is = let same = same_count old k (bits_of plan) is (bits.plain (none refl)) in omega (arith, same)
+within_ahead plan (Some least) old arrays copies k bits widths none words is = let most = copies_within old (bits_of plan) least copies k widths (bits.exact k is) in let same = words least refl in omega (arith, most, same)
+
 -- The module into which a circuit is packed.
-pub packed_circuit : (p : Program) (plan : Plan) (enable : Bool) (block : Option ℕ) (m old : Netlist) (slots : List Slot) (nets reads : List Net) (order : List ℕ) → IsProgram p → KeepsRules m → IsEvaluationOrder m.assigns order → IsCircuitOf p plan enable block old nets reads → IsPacking m old slots → (block ≡ None → m ≡ old) →
+pub packed_circuit : (p : Program) (plan : Plan) (enable : Bool) (block : Option ℕ) (m old : Netlist) (slots : List Slot) (nets reads : List Net) (order : List ℕ) → IsProgram p → KeepsRules m → IsEvaluationOrder m.assigns order → IsCircuitOf p plan enable block old nets reads → IsPacking m old slots → ((least : ℕ) → block ≡ Some least → word_bits least m.arrays ≡ word_bits least old.arrays) → (block ≡ None → m ≡ old) →
     IsPackedCircuitOf p plan enable block m nets reads
-packed_circuit p plan enable block m old slots nets reads order program rules ordered circuit packing none = record {
+packed_circuit p plan enable block m old slots nets reads order program rules ordered circuit packing words none = record {
   ports = ports_of m old v sim whole circuit.whole p enable circuit.ports;
   whole = whole;
   runs = runs_alike m old v sim whole circuit.whole circuit.runs;
@@ -173,6 +187,7 @@ packed_circuit p plan enable block m old slots nets reads order program rules or
   once = packing.once (λ x low. let one = circuit.once x low in record { read = ap length one.read; put = ap length one.put });
   registers = packing.packed.regs;
   depth = λ base wide nets_in arrays_in n net is. packed_within m old slots packing.packed base wide nets_in arrays_in n net is;
+  bits = λ k is. within_ahead plan block old m.arrays circuit.copies k circuit.bits circuit.copied.widths circuit.none words ((packing.bits k).1 is);
   none = none;
   behaves = behaves_alike m old v sim whole circuit.whole p plan (form_with block circuit.splits).places circuit.copies nets reads (λ c d fits other same. contents_seen m old slots packing.filled c d fits other same) (packed_nets old slots) circuit.behaves circuit.nets_are.there circuit.reads_are;
 }
@@ -189,4 +204,4 @@ packed_circuit p plan enable block m old slots nets reads order program rules or
 -- Without packing the module is the circuit.
 pub plain_circuit : (p : Program) (plan : Plan) (enable : Bool) (block : Option ℕ) (m : Netlist) (nets reads : List Net) → IsProgram p → IsCircuitOf p plan enable block m nets reads → IsPackedCircuitOf p plan enable block m nets reads
 plain_circuit p plan enable block m nets reads program circuit =
-    packed_circuit p plan enable block m m (whole_slots 0 m.arrays) nets reads circuit.whole.order program circuit.whole.rules circuit.whole.ordered circuit (whole_packing m circuit.whole.rules) (λ e. refl)
+    packed_circuit p plan enable block m m (whole_slots 0 m.arrays) nets reads circuit.whole.order program circuit.whole.rules circuit.whole.ordered circuit (whole_packing m circuit.whole.rules) (λ least e. refl) (λ e. refl)

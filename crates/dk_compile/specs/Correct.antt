@@ -22,6 +22,7 @@ use Rattle.circuit.specs.Driven.{driven}
 use Rattle.verilog_text.specs.Stands.{StandsFor}
 use Rattle.same_phases.specs.Phases.{IsRound, output_picture}
 use Rattle.dk_compile.specs.Limits.{HasSystem, IsAcceptedAt}
+use Rattle.dk_compile.specs.Packed.{ahead_bits}
 
 -- The inputs' frames, one after another, each with a picture for each input.
 abbrev pub Frames : Type 0
@@ -100,3 +101,5 @@ pub record IsCorrect (source : List ℕ) (age : ℕ) (enable : Bool) (block : Op
   pub least : (delays : List ℕ) → IsCausal plan.system delays → array_bits «module».netlist.arrays ≤ bits plan.system delays
   -- and without `block` these are all its buffer bits: no register takes in what came in
   pub all : block ≡ None → IsBufferBits «module».netlist (array_bits «module».netlist.arrays)
+  -- with it, such registers have at most the bits of one word of each array of at least `block` words
+  pub ahead : (k : ℕ) → IsBufferBits «module».netlist k → k ≤ array_bits «module».netlist.arrays + ahead_bits block «module».netlist.arrays

@@ -1,9 +1,11 @@
 -- The module of a text: the circuit of its plan, with a number with its arrays packed.
-use Rattle.std.specs.Prelude.{◌≡◌, ℕ, ◌+◌, ◌<◌, pos, IsTrue, Bool, Option, None, List, ◌∷◌, length, slice_get, Some}
+use Rattle.std.specs.Prelude.{◌≡◌, ℕ, ◌+◌, ◌<◌, ◌≤◌, pos, IsTrue, Bool, Option, None, List, ◌∷◌, length, slice_get, Some}
 use Rattle.dk_base.specs.declared.stencils.LiveRead.{LiveRead}
 use Rattle.wiring.specs.declared.netlist.Net.{Net}
 use Rattle.wiring.specs.declared.netlist.Holder.{Holder}
 use Rattle.wiring.specs.declared.netlist.Holder.TheVariants.{OfNet, OfArray}
+use Rattle.wiring.specs.declared.netlist.Shape.{Shape}
+use Rattle.wiring.specs.BufferBits.{IsBufferBits}
 use Rattle.wiring.specs.Netlist.{Netlist, valid_net, dout_net}
 use Rattle.wiring.specs.Snapshot.{Contents, Snapshot, IsNext, net_value}
 use Rattle.wiring.specs.Clock.{Clock, bit}
@@ -11,10 +13,11 @@ use Rattle.wiring.specs.History.{was_reset, is_held, counted}
 use Rattle.net_build.specs.Runs.{IsClockOf, IsWhole, RunsOn, IsReady}
 use Rattle.net_build.specs.Depth.{IsWithin}
 use Rattle.array_packing.specs.declared.slots.Slot.{Slot}
+use Rattle.module_pass.specs.Words.{word_bits}
 use Rattle.module_pass.specs.Simulation.{View}
 use Rattle.array_packing.specs.Packing.{AreAccessedOnce, IsPacking, packed}
 use Rattle.pointwise_ir.specs.Programs.{Program}
-use Rattle.buffer_plan.specs.Plans.{Plan, delay_of, depth_of, latency_of, read_age}
+use Rattle.buffer_plan.specs.Plans.{Plan, bits_of, delay_of, depth_of, latency_of, read_age}
 use Rattle.line_buffer.specs.Streams.{IsPixel, BufferIsRight}
 use Rattle.line_buffer.specs.Places.{word_at}
 use Rattle.circuit.specs.Runs.{IsRunning}
@@ -53,6 +56,11 @@ KeepsDepth new old slots =
     (base wide : Holder → Bool) → ((x : Net) → IsTrue (base (OfNet x)) → IsTrue (wide (OfNet x))) → ((x : ℕ) (k : Slot) → slice_get slots x ≡ Some k → IsTrue (base (OfArray x)) → IsTrue (wide (OfArray k.array)))
     → (n : ℕ) (net : Net) → IsWithin old base n (OfNet net) → IsWithin new wide n (OfNet net)
 
+-- the bits of one word of each array of at least `block` words; none without a number
+abbrev pub ahead_bits : (block : Option ℕ) → List Shape → ℕ
+ahead_bits None arrays = 0
+ahead_bits (Some least) arrays = word_bits least arrays
+
 -- The module of a program under a plan. There is a circuit of which everything is claimed, and the module is this circuit with its arrays packed. What the module does in its runs is claimed of the module itself.
 pub record IsPackedCircuitOf (p : Program) (plan : Plan) (enable : Bool) (block : Option ℕ) (m : Netlist) (nets reads : List Net) : Type 0 where
   pub ports : HasPorts m p enable
@@ -72,6 +80,8 @@ pub record IsPackedCircuitOf (p : Program) (plan : Plan) (enable : Bool) (block 
   -- no register and no operator is added
   pub registers : m.regs ≡ unpacked.regs
   pub depth : KeepsDepth m unpacked slots
+  -- its buffer bits are at most the plan's and one word more for each array that is read one clock ahead
+  pub bits : (k : ℕ) → IsBufferBits m k → k ≤ bits_of plan + ahead_bits block m.arrays
   -- without a number the module is the circuit
   pub none : block ≡ None → m ≡ unpacked
   -- and what it does over any clocks

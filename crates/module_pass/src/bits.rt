@@ -1,7 +1,8 @@
 // Whether two modules have the same bits.
 
-ghost use Rattle.std.specs.Prelude.{◌≡◌, ℕ, ◌+◌, ◌*◌, ◌≤◌, IsTrue, IfOk, length};
+ghost use Rattle.std.specs.Prelude.{◌≡◌, ℕ, ◌+◌, ◌*◌, ◌≤◌, ◌↔◌, IsTrue, IfOk, length};
 ghost use Rattle.wiring.specs.BufferBits.{IsBufferBits, array_bits as array_bits_of};
+ghost use Rattle.module_pass.specs.Words.{word_bits as word_bits_of};
 
 use dk_base::OutOfMemory;
 use netlist::Module;
@@ -38,6 +39,36 @@ fn bits_of(module: &Module) -> u128
     array_bits(&module.wiring().arrays)
 }
 
+// The bits of one word of each array of at least this number of words.
+fn word_bits(arrays: &[Shape], least: u32) -> u128
+    ensures bits { result ≡ word_bits_of least arrays.now }
+    ensures bound { result ≤ length arrays.now * 256 }
+{
+    let mut sum = 0;
+    for shape in arrays {
+        if shape.depth.words() >= least {
+            sum += shape.width.bits() as u128;
+        }
+    }
+    sum
+}
+
+fn words_of(module: &Module, least: u32) -> u128
+    ensures { result ≡ word_bits_of least «module».now.netlist.arrays }
+{
+    word_bits(&module.wiring().arrays, least)
+}
+
+/// Whether one word of each array of at least this number of words has the same number of bits in both modules.
+pub fn same_word_bits(new: &Module, old: &Module, least: u32) -> bool
+    ensures { IsTrue result → word_bits_of least new.now.netlist.arrays
+        ≡ word_bits_of least old.now.netlist.arrays }
+{
+    let before = words_of(old, least);
+    let after = words_of(new, least);
+    same_number(after, before)
+}
+
 /// Whether the arrays of both modules have the same number of bits.
 pub fn same_array_bits(new: &Module, old: &Module) -> bool
     ensures { IsTrue result → array_bits_of new.now.netlist.arrays ≡ array_bits_of old.now.netlist.arrays }
@@ -49,7 +80,8 @@ pub fn same_array_bits(new: &Module, old: &Module) -> bool
 
 /// Whether both modules have the same number of buffer bits.
 pub fn same_buffer_bits(alloc: Global, new: &Module, old: &Module) -> Result<bool, OutOfMemory>
-    ensures { IfOk result (λ is. IsTrue is → (k : ℕ) → IsBufferBits old.now.netlist k → IsBufferBits new.now.netlist k) }
+    ensures { IfOk result (λ is. IsTrue is → (k : ℕ)
+        → IsBufferBits old.now.netlist k ↔ IsBufferBits new.now.netlist k) }
 {
     let before = netlist::buffer_bits(alloc, old)?;
     let after = netlist::buffer_bits(alloc, new)?;
