@@ -64,9 +64,9 @@ pub fn same_word_bits(new: &Module, old: &Module, least: u32) -> bool
     ensures { IsTrue result → word_bits_of least new.now.netlist.arrays
         ≡ word_bits_of least old.now.netlist.arrays }
 {
-    let before = words_of(old, least);
-    let after = words_of(new, least);
-    same_number(after, before)
+    let old_bits = words_of(old, least);
+    let new_bits = words_of(new, least);
+    same_number(new_bits, old_bits)
 }
 
 /// Whether the arrays of both modules have the same number of bits.
