@@ -1,9 +1,11 @@
 -- For the private functions: what the tables of drivers say of the nets and arrays of a scope.
-use Rattle.std.specs.Prelude.{◌≡◌, ◌⊎◌, ℕ, Bool, true, is_some, List}
+use Rattle.std.specs.Prelude.{◌≡◌, ◌⊎◌, ℕ, Bool, true, is_some, List, length, All}
 use Rattle.wiring.specs.declared.netlist.Net.TheVariants.{Input, Output, Wire, Reg}
 use Rattle.wiring.specs.declared.netlist.Holder.TheVariants.{OfNet, OfArray}
+use Rattle.wiring.specs.declared.netlist.Assign.{Assign}
+use Rattle.wiring.specs.declared.netlist.Update.{Update}
 use Rattle.wiring.specs.Netlist.{Netlist, netlist_of, update_target}
-use Rattle.wiring.specs.Tables.{IsSecond, assign_target, driver_of, updater_of, IsTable, IsUpdateTable}
+use Rattle.wiring.specs.Tables.{IsSecond, IsTarget, IsStateTarget, assign_target, driver_of, updater_of, IsTable, IsUpdateTable}
 use Rattle.wiring.specs.Order.{DependsOn, IsEvaluationOrder}
 use Rattle.netlist.specs.declared.parts.Parts.{Parts}
 use Rattle.netlist.specs.declared.fault.Declared.{Declared}
@@ -16,6 +18,14 @@ use Rattle.netlist.specs.Scopes.{Meaning, clock, net, array, Entry, SizesFit, Na
 use Rattle.netlist.specs.Faults.{TargetsDiffer}
 use Rattle.netlist.specs.Passes.{FirstWrong, IsPlace, PassesDrivers}
 
+-- each assign drives an output or a wire that is there
+abbrev pub AreTargets : Netlist → Type 0
+AreTargets m = All (λ (a : Assign). IsTarget (length m.outputs) (length m.wires) a.target) m.assigns
+
+-- each update is of a register or an array that is there
+abbrev pub AreStateTargets : Netlist → Type 0
+AreStateTargets m = All (λ (u : Update). IsStateTarget (length m.regs) (length m.arrays) (update_target u)) m.updates
+
 -- whether the tables have what drives it; the clock and inputs need nothing
 abbrev pub is_driven_by : Tables → Meaning → Bool
 is_driven_by d clock = true
@@ -27,6 +37,10 @@ is_driven_by d (array x) = is_some (updater_of d.updaters (OfArray x))
 
 abbrev pub IsDrivenEntry : Tables → Entry → Type 0
 IsDrivenEntry d e = is_driven_by d e.meaning ≡ true
+
+-- the first of the entries that nothing drives
+abbrev pub IsUndrivenPlace : Tables → List Entry → ℕ → Type 0
+IsUndrivenPlace d scope place = FirstWrong (IsDrivenEntry d) (λ e. IsDrivenEntry d e → ⊥) scope place
 
 pub record AreTables (m : Netlist) (d : Tables) : Type 0 where
   pub drivers : IsTable m.assigns d.drivers

@@ -6,3 +6,4 @@ pub mod Entries
 pub mod Statements
 pub mod Profile
 pub mod Driven
+pub mod Noted

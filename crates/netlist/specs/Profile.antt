@@ -4,12 +4,17 @@ use Rattle.std.specs.List.{AllZip}
 use Rattle.wiring.specs.declared.TheConstants.{MOST_PORTS}
 use Rattle.wiring.specs.Rules.{IsPortCount}
 use Rattle.netlist.specs.declared.parts.Port.{Port}
+use Rattle.netlist.specs.declared.parts.Direction.{Direction}
 use Rattle.netlist.specs.declared.parts.Direction.TheVariants.{Input as Takes}
 use Rattle.netlist.specs.Names.{numbered}
 use Rattle.netlist.specs.Faults.{PortRule, bit_input, din_rules, output_rules, FitsRule}
 
 abbrev pub din_rule : ℕ → PortRule
 din_rule k = record { direction = Takes; name = numbered (codes "din") k; wide = true }
+
+-- the port has this direction, the name of this word with this number, and one bit unless it is wide
+abbrev pub IsNumberedPort : Port → Direction → (word : List ℕ) → (number : ℕ) → (wide : Bool) → Type 0
+IsNumberedPort p direction word number wide = FitsRule p (record { direction = direction; name = numbered word number; wide = wide })
 
 -- from the output of this number on
 pub record AreOutputs (ports : List Port) (number : ℕ) : Type 0 where

@@ -234,6 +234,9 @@ SortFits (OfWire w) = IsWidth w
 SortFits (OfReg w) = IsWidth w
 SortFits (OfArray s) = IsShape s
 
+abbrev pub AreSized : List Declaration → Type 0
+AreSized ds = All (λ (d : Declaration). SortFits d.sort) ds
+
 abbrev pub update_constants : NamedUpdate → List SizedNumber
 update_constants (NamedSet r a) = atom_constants a
 update_constants (NamedPut m i a) = atom_constants i ++ atom_constants a
@@ -244,6 +247,9 @@ pub record SizesFit (p : Parts) : Type 0 where
   pub updates : All (λ (u : NamedUpdate). All IsConstant (update_constants u)) p.updates.items
 
 -- the names are names, as the types of the parts keep them
+abbrev pub AreNamed : List Declaration → Type 0
+AreNamed ds = All (λ (d : Declaration). is_name d.name ≡ true) ds
+
 pub record NamesAre (p : Parts) : Type 0 where
   pub «module» : is_name p.name ≡ true
   pub declarations : All (λ (d : Declaration). is_name d.name ≡ true) p.declarations.items

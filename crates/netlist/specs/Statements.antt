@@ -1,5 +1,5 @@
 -- For the private functions: statements by what their names denote, and what is wrong with one.
-use Rattle.std.specs.Prelude.{◌≡◌, ℕ, Bool, true, ◌&&◌, is_some, List, [], ◌∷◌, All, Some}
+use Rattle.std.specs.Prelude.{◌≡◌, ◌≤◌, ◌<◌, ◌+◌, ◌-◌, ℕ, Bool, true, ◌&&◌, is_some, List, [], ◌∷◌, All, Some}
 use Rattle.wiring.specs.declared.right.Right.{Right}
 use Rattle.wiring.specs.declared.netlist.Net.{Net}
 use Rattle.wiring.specs.declared.netlist.Net.TheVariants.{Input, Output, Wire, Reg}
@@ -14,6 +14,7 @@ use Rattle.netlist.specs.declared.parts.Parts.{Parts}
 use Rattle.netlist.specs.declared.parts.NamedAssign.{NamedAssign}
 use Rattle.netlist.specs.declared.parts.NamedUpdate.{NamedUpdate}
 use Rattle.netlist.specs.declared.fault.Statement.{Statement}
+use Rattle.netlist.specs.declared.fault.Statement.TheVariants.{Assign as AssignAt, Update as UpdateAt}
 use Rattle.netlist.specs.declared.fault.NetFault.{NetFault}
 use Rattle.netlist.specs.declared.fault.NetFault.TheVariants as faults
 use Rattle.netlist.specs.declared.statement.Wrong.{Wrong}
@@ -82,6 +83,17 @@ pub record IsFirstFault {X : Type 0} (Good : X → Type 0) (Bad : Wrong → X �
   pub place : ℕ
   pub fault : f ≡ fault_of wrong (statement place)
   pub first : FirstWrong Good (Bad wrong) items place
+
+-- the fault of the first assign that is wrong, and of the first update
+abbrev pub IsAssignFault : List Entry → Netlist → List NamedAssign → NetFault → Type 0
+IsAssignFault scope m named f = IsFirstFault (IsGoodAssign scope m) (IsWrongAssign scope m) (λ k. AssignAt k) named f
+
+abbrev pub IsUpdateFault : List Entry → Netlist → List NamedUpdate → NetFault → Type 0
+IsUpdateFault scope m named f = IsFirstFault (IsGoodUpdate scope m) (IsWrongUpdate scope m) (λ k. UpdateAt k) named f
+
+-- a part of a vector of this many bits, which is as wide as the target
+abbrev pub IsSliceOf : (vector high low target : ℕ) → Type 0
+IsSliceOf vector high low target = ((2 ≤ vector) × (low ≤ high) × (high < vector)) × (high - low + 1 ≡ target)
 
 -- the ports, nets and arrays of the parts, whatever drives them
 pub record HasNets (p : Parts) (w : TheNetlist) : Type 0 where

@@ -1,11 +1,11 @@
 // The module that parts make, or their first fault.
 
-ghost use Rattle.std.specs.Prelude.{◌≡◌, ◌++◌, reverse, OnOk, IfOk, IfErr};
-ghost use Rattle.std.specs.Option.{option_to_list};
+ghost use Rattle.std.specs.Prelude.{◌≡◌, reverse, OnOk, IfOk, IfErr};
 ghost use Rattle.wiring.specs.Netlist.{netlist_of};
 ghost use Rattle.netlist.specs.Names.{names_of as names_told};
-ghost use Rattle.netlist.specs.Scopes.{scope_of, wire_name, reg_name, array_name, netlist_of_parts, names_of_parts, collected, SizesFit};
+ghost use Rattle.netlist.specs.Scopes.{scope_of, netlist_of_parts, names_of_parts, SizesFit};
 ghost use Rattle.netlist.specs.Faults.{IsFault, IsErrorBy, IsModuleOf};
+ghost use Rattle.netlist.specs.Noted.{AreNamesBackwards, NotesName};
 ghost use Rattle.netlist.specs.Passes.{PassesPorts, PassesStatements, IsPassFault};
 ghost use Rattle.netlist.specs.Driven.{IsWired};
 
@@ -62,10 +62,7 @@ fn wired_of(alloc: Global, parts: &Parts) -> Result<Wired, NetError>
 
 // Adds the name of a declaration to those of its sort.
 fn note_name(names: &mut Names, declaration: Declaration) -> Result<(), AllocError>
-    ensures top { OnOk result (names.new.module ≡ names.old.module) }
-    ensures wires { OnOk result (names.new.wires.items ≡ names.old.wires.items ++ option_to_list (wire_name declaration)) }
-    ensures regs { OnOk result (names.new.regs.items ≡ names.old.regs.items ++ option_to_list (reg_name declaration)) }
-    ensures arrays { OnOk result (names.new.arrays.items ≡ names.old.arrays.items ++ option_to_list (array_name declaration)) }
+    ensures { OnOk result (NotesName names.new names.old declaration) }
 {
     let Declaration { name, sort } = declaration;
     match sort {
@@ -82,10 +79,7 @@ fn names_backwards(
     name: Name,
     mut declarations: Vec<Declaration>,
 ) -> Result<Names, AllocError>
-    ensures top { IfOk result (λ n. n.module ≡ name) }
-    ensures wires { IfOk result (λ n. reverse n.wires.items ≡ collected wire_name declarations.items) }
-    ensures regs { IfOk result (λ n. reverse n.regs.items ≡ collected reg_name declarations.items) }
-    ensures arrays { IfOk result (λ n. reverse n.arrays.items ≡ collected array_name declarations.items) }
+    ensures { IfOk result (λ n. AreNamesBackwards n name declarations.items) }
 {
     let mut names = Names {
         module: name,

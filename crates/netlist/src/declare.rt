@@ -1,13 +1,10 @@
 // What is declared: the scope and the nets of parts.
 
-ghost use Rattle.std.specs.Prelude.{◌≡◌, ◌+◌, ◌++◌, ◌<◌, ◌^◌, true, length, All, OnOk, IfOk, IfErr};
-ghost use Rattle.std.specs.Option.{option_to_list};
-ghost use Rattle.net_names.specs.Words.{is_name};
-ghost use Rattle.netlist.specs.declared.parts.Port.{Port as OnePort};
-ghost use Rattle.netlist.specs.declared.parts.Declaration.{Declaration as OneDeclaration};
-ghost use Rattle.netlist.specs.Scopes.{port_meaning, inputs_after, outputs_after, port_entries, all_ports, sort_meaning, wires_after, regs_after, arrays_after, declared_entries, scope_of as scope_of_parts, past_clock as ports_past_clock, has_enable as enable_among, collected, taken, given, wire_width, reg_width, array_shape, SortFits, NamesAre};
+ghost use Rattle.std.specs.Prelude.{◌≡◌, ◌+◌, ◌++◌, ◌<◌, ◌^◌, length, OnOk, IfOk, IfErr};
+ghost use Rattle.netlist.specs.Scopes.{port_meaning, inputs_after, outputs_after, port_entries, all_ports, sort_meaning, wires_after, regs_after, arrays_after, declared_entries, scope_of as scope_of_parts, past_clock as ports_past_clock, has_enable as enable_among, AreNamed, AreSized, SortFits, NamesAre};
 ghost use Rattle.netlist.specs.Entries.{meaning_of, names_in, IsSecondPort, IsSecondDeclaration};
 ghost use Rattle.netlist.specs.Faults.{IsErrorBy};
+ghost use Rattle.netlist.specs.Noted.{ArePortWidths, AreSorts, NotesPort, NotesSort};
 ghost use Rattle.netlist.specs.Passes.{NamesDiffer, IsPassFault};
 ghost use Rattle.netlist.specs.Statements.{HasNets};
 
@@ -51,7 +48,8 @@ fn output_after(direction: Direction, outputs: usize) -> usize
 fn add_ports<'a>(scope: &mut Scope<'a>, ports: &'a [Port]) -> Result<(), NetError>
     requires { length scope.old ≡ 1 }
     ensures ok { OnOk result (scope.new ≡ scope.old ++ port_entries 0 0 ports.now) }
-    ensures fault { IfErr result (IsErrorBy (IsSecondPort (names_in (scope.old ++ port_entries 0 0 ports.now)) (1 + length ports.now))) }
+    ensures fault { IfErr result (IsErrorBy (IsSecondPort
+        (names_in (scope.old ++ port_entries 0 0 ports.now)) (1 + length ports.now))) }
 {
     let mut inputs = 0;
     let mut outputs = 0;
@@ -68,7 +66,8 @@ fn add_ports<'a>(scope: &mut Scope<'a>, ports: &'a [Port]) -> Result<(), NetErro
 fn add_all_ports<'a>(scope: &mut Scope<'a>, ports: &'a [Port]) -> Result<(), NetError>
     requires { length scope.old ≡ 0 }
     ensures ok { OnOk result (scope.new ≡ all_ports ports.now) }
-    ensures fault { IfErr result (IsErrorBy (IsSecondPort (names_in (all_ports ports.now)) (length ports.now))) }
+    ensures fault { IfErr result
+        (IsErrorBy (IsSecondPort (names_in (all_ports ports.now)) (length ports.now))) }
 {
     match ports.split_first() {
         None => Ok(()),
@@ -136,8 +135,9 @@ fn add_declarations<'a>(
     declarations: &'a [Declaration],
 ) -> Result<(), NetError>
     ensures ok { OnOk result (scope.new ≡ scope.old ++ declared_entries 0 0 0 declarations.now) }
-    ensures names { OnOk result (All (λ (d : OneDeclaration). is_name d.name ≡ true) declarations.now) }
-    ensures fault { IfErr result (IsErrorBy (IsSecondDeclaration (names_in (scope.old ++ declared_entries 0 0 0 declarations.now)) (length scope.old))) }
+    ensures names { OnOk result (AreNamed declarations.now) }
+    ensures fault { IfErr result (IsErrorBy (IsSecondDeclaration
+        (names_in (scope.old ++ declared_entries 0 0 0 declarations.now)) (length scope.old))) }
 {
     let mut counts = Counts {
         wires: 0,
@@ -197,8 +197,7 @@ pub(crate) struct PortWidths {
 }
 
 fn note_port(widths: &mut PortWidths, port: &Port) -> Result<(), AllocError>
-    ensures inputs { OnOk result (widths.new.inputs.items ≡ widths.old.inputs.items ++ option_to_list (taken port.now.direction port.now.width)) }
-    ensures outputs { OnOk result (widths.new.outputs.items ≡ widths.old.outputs.items ++ option_to_list (given port.now.direction port.now.width)) }
+    ensures { OnOk result (NotesPort widths.new widths.old port.now) }
 {
     match port.direction {
         Direction::Input => widths.inputs.push(port.width)?,
@@ -208,8 +207,7 @@ fn note_port(widths: &mut PortWidths, port: &Port) -> Result<(), AllocError>
 }
 
 fn port_widths(alloc: Global, ports: &[Port]) -> Result<PortWidths, AllocError>
-    ensures inputs { IfOk result (λ w. w.inputs.items ≡ collected (λ (q : OnePort). taken q.direction q.width) ports.now) }
-    ensures outputs { IfOk result (λ w. w.outputs.items ≡ collected (λ (q : OnePort). given q.direction q.width) ports.now) }
+    ensures { IfOk result (ArePortWidths ports.now) }
 {
     let mut widths = PortWidths {
         inputs: Vec::new(alloc),
@@ -247,9 +245,7 @@ fn sort_law(sort: Sort)
 }
 
 fn note_sort(sorts: &mut Sorts, sort: Sort) -> Result<(), AllocError>
-    ensures wires { OnOk result (sorts.new.wires.items ≡ sorts.old.wires.items ++ option_to_list (wire_width sort)) }
-    ensures regs { OnOk result (sorts.new.regs.items ≡ sorts.old.regs.items ++ option_to_list (reg_width sort)) }
-    ensures arrays { OnOk result (sorts.new.arrays.items ≡ sorts.old.arrays.items ++ option_to_list (array_shape sort)) }
+    ensures { OnOk result (NotesSort sorts.new sorts.old sort) }
 {
     match sort {
         Sort::Wire(width) => sorts.wires.push(width)?,
@@ -260,10 +256,7 @@ fn note_sort(sorts: &mut Sorts, sort: Sort) -> Result<(), AllocError>
 }
 
 fn sorts_of(alloc: Global, declarations: &[Declaration]) -> Result<Sorts, AllocError>
-    ensures wires { IfOk result (λ s. s.wires.items ≡ collected (λ (d : OneDeclaration). wire_width d.sort) declarations.now) }
-    ensures regs { IfOk result (λ s. s.regs.items ≡ collected (λ (d : OneDeclaration). reg_width d.sort) declarations.now) }
-    ensures arrays { IfOk result (λ s. s.arrays.items ≡ collected (λ (d : OneDeclaration). array_shape d.sort) declarations.now) }
-    ensures fit { OnOk result (All (λ (d : OneDeclaration). SortFits d.sort) declarations.now) }
+    ensures { IfOk result (AreSorts declarations.now) }
 {
     let mut sorts = Sorts {
         wires: Vec::new(alloc),
@@ -280,7 +273,7 @@ fn sorts_of(alloc: Global, declarations: &[Declaration]) -> Result<Sorts, AllocE
 // The nets and arrays of parts, with nothing that drives them.
 pub(crate) fn nets_of(alloc: Global, parts: &Parts) -> Result<Netlist, AllocError>
     ensures nets { IfOk result (HasNets parts.now) }
-    ensures fit { OnOk result (All (λ (d : OneDeclaration). SortFits d.sort) parts.now.declarations.items) }
+    ensures fit { OnOk result (AreSized parts.now.declarations.items) }
 {
     let PortWidths { inputs, outputs } = port_widths(alloc, past_clock(&parts.ports))?;
     let Sorts {

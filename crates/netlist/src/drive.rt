@@ -1,16 +1,14 @@
 // What drives each net and array, and in which order.
 
 ghost use Rattle.std.specs.Prelude.{◌≡◌, ◌<◌, length, slice_get, All, OnOk, IfOk, IfErr, IfNone, IfSome};
-ghost use Rattle.wiring.specs.declared.netlist.Assign.{Assign};
-ghost use Rattle.wiring.specs.declared.netlist.Update.{Update};
-ghost use Rattle.wiring.specs.Netlist.{netlist_of, update_target};
-ghost use Rattle.wiring.specs.Tables.{IsTarget, IsStateTarget, IsTable, IsUpdateTable};
+ghost use Rattle.wiring.specs.Netlist.{netlist_of};
+ghost use Rattle.wiring.specs.Tables.{IsTable, IsUpdateTable};
 ghost use Rattle.wiring.specs.Order.{IsEvaluationOrder};
 ghost use Rattle.netlist.specs.Scopes.{Entry};
 ghost use Rattle.netlist.specs.Entries.{meaning_of};
 ghost use Rattle.netlist.specs.Faults.{IsErrorBy};
-ghost use Rattle.netlist.specs.Passes.{FirstWrong, IsPlace};
-ghost use Rattle.netlist.specs.Driven.{is_driven_by, IsDrivenEntry, AreTables, IsDrivenTwice, IsSecondAssign, IsSecondUpdate, IsFirstUndriven, IsCycle};
+ghost use Rattle.netlist.specs.Passes.{IsPlace};
+ghost use Rattle.netlist.specs.Driven.{is_driven_by, AreStateTargets, AreTables, AreTargets, IsDrivenEntry, IsUndrivenPlace, IsDrivenTwice, IsSecondAssign, IsSecondUpdate, IsFirstUndriven, IsCycle};
 
 use crate::fault::{Declared, NetError, NetFault, Statement};
 use crate::parts::Parts;
@@ -27,7 +25,7 @@ pub(crate) struct Tables {
 
 // The assign of each output and wire, or the second assign of one.
 fn drivers_of(alloc: Global, wiring: &Netlist) -> Result<Drivers, NetError>
-    requires { All (λ (a : Assign). IsTarget (length wiring.now.outputs.items) (length wiring.now.wires.items) a.target) wiring.now.assigns.items }
+    requires { AreTargets (netlist_of wiring.now) }
     ensures ok { IfOk result (IsTable wiring.now.assigns.items) }
     ensures fault { IfErr result (IsErrorBy (IsSecondAssign (netlist_of wiring.now))) }
 {
@@ -44,7 +42,7 @@ fn drivers_of(alloc: Global, wiring: &Netlist) -> Result<Drivers, NetError>
 
 // The update of each register and array, or the second update of one.
 fn updaters_of(alloc: Global, wiring: &Netlist) -> Result<Updaters, NetError>
-    requires { All (λ (u : Update). IsStateTarget (length wiring.now.regs.items) (length wiring.now.arrays.items) (update_target u)) wiring.now.updates.items }
+    requires { AreStateTargets (netlist_of wiring.now) }
     ensures ok { IfOk result (IsUpdateTable wiring.now.updates.items) }
     ensures fault { IfErr result (IsErrorBy (IsSecondUpdate (netlist_of wiring.now))) }
 {
@@ -61,9 +59,8 @@ fn updaters_of(alloc: Global, wiring: &Netlist) -> Result<Updaters, NetError>
 
 // What drives each net and array, or the second driver of one, assigns first.
 pub(crate) fn tables_of(alloc: Global, wiring: &Netlist) -> Result<Tables, NetError>
-    requires targets { All (λ (a : Assign). IsTarget (length wiring.now.outputs.items) (length wiring.now.wires.items) a.target) wiring.now.assigns.items }
-    requires states { All (λ (u : Update). IsStateTarget (length wiring.now.regs.items)
-        (length wiring.now.arrays.items) (update_target u)) wiring.now.updates.items }
+    requires targets { AreTargets (netlist_of wiring.now) }
+    requires states { AreStateTargets (netlist_of wiring.now) }
     ensures tables { IfOk result (AreTables (netlist_of wiring.now)) }
     ensures fault { IfErr result (IsErrorBy (IsDrivenTwice (netlist_of wiring.now))) }
 {
@@ -88,7 +85,8 @@ fn is_driven(tables: &Tables, stands: Stands) -> bool
 // Whether what is at this place of the scope is driven.
 fn is_driven_at(scope: &Scope, tables: &Tables, place: usize) -> bool
     requires { place < length scope.now }
-    ensures { (e : Entry) → slice_get scope.now place ≡ Some e → result ≡ is_driven_by tables.now e.meaning }
+    ensures { (e : Entry)
+        → slice_get scope.now place ≡ Some e → result ≡ is_driven_by tables.now e.meaning }
 {
     match scope.stands_at(place) {
         Some(stands) => is_driven(tables, stands),
@@ -99,7 +97,7 @@ fn is_driven_at(scope: &Scope, tables: &Tables, place: usize) -> bool
 // The first place of the scope at which nothing drives what is there.
 fn first_undriven(scope: &Scope, tables: &Tables) -> Option<usize>
     ensures none { IfNone result (All (IsDrivenEntry tables.now) scope.now) }
-    ensures some { IfSome result (FirstWrong (IsDrivenEntry tables.now) (λ e. IsDrivenEntry tables.now e → ⊥) scope.now) }
+    ensures some { IfSome result (IsUndrivenPlace tables.now scope.now) }
 {
     for place in 0..scope.len() {
         if !is_driven_at(scope, tables, place) {

@@ -6,7 +6,7 @@ ghost use Rattle.wiring.specs.declared.TheConstants.{MOST_PORTS};
 ghost use Rattle.netlist.specs.Names.{numbered};
 ghost use Rattle.netlist.specs.Faults.{FitsRule, HasRuleWidth, PortsFit};
 ghost use Rattle.netlist.specs.Passes.{NamesDiffer, PassesPorts, IsPassFault};
-ghost use Rattle.netlist.specs.Profile.{din_rule, AreOutputs, AreFromDins, AreFromEnable};
+ghost use Rattle.netlist.specs.Profile.{din_rule, AreOutputs, AreFromDins, AreFromEnable, IsNumberedPort};
 
 use crate::fault::NetFault;
 use crate::parts::{Direction, Parts, Port};
@@ -53,8 +53,8 @@ fn has_rule_width(width: Width, wide: bool) -> bool
 // Whether this is the port of the number with this word, 1 bit wide where it may not be wide.
 fn fits(port: &Port, direction: Direction, word: &[u8], number: usize, wide: bool) -> bool
     requires { number < MOST_PORTS }
-    ensures yes { IsTrue result → FitsRule port.now (record { direction = direction; name = numbered word.now number; wide = wide }) }
-    ensures no { FitsRule port.now (record { direction = direction; name = numbered word.now number; wide = wide }) → IsTrue result }
+    ensures yes { IsTrue result → IsNumberedPort port.now direction word.now number wide }
+    ensures no { IsNumberedPort port.now direction word.now number wide → IsTrue result }
 {
     if port.direction != direction {
         return false;

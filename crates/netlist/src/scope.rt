@@ -66,7 +66,8 @@ impl<'a> Scope<'a> {
         declared: Declared,
     ) -> Result<(), NetError>
         ensures { MatchResult result (λ _. self.new
-            ≡ self.old ++ (record { name = name.now; meaning = meaning_of stands }) ∷ []) (IsErrorBy (IsTaken self.old name.now declared)) }
+            ≡ self.old ++ (record { name = name.now; meaning = meaning_of stands }) ∷ [])
+            (IsErrorBy (IsTaken self.old name.now declared)) }
     {
         if self.names.contains_key(name) {
             return Err(NetError::Fault(NetFault::Duplicate(declared)));
@@ -84,7 +85,8 @@ impl<'a> Scope<'a> {
 
     // What the name at this place denotes.
     pub(crate) fn stands_at(&self, place: usize) -> Option<Stands>
-        ensures { option_map meaning_of result ≡ option_map (λ (e : Entry). e.meaning) (slice_get self.now place) }
+        ensures { option_map meaning_of result
+            ≡ option_map (λ (e : Entry). e.meaning) (slice_get self.now place) }
     {
         let (_, stands) = self.names.get_index(place)?;
         Some(*stands)

@@ -2,10 +2,9 @@
 
 ghost use Rattle.std.specs.Prelude.{◌≡◌, ◌++◌, ◌∷◌, [], All, OnOk, IfOk, IfErr, IsTrue};
 ghost use Rattle.wiring.specs.Netlist.{netlist_of};
-ghost use Rattle.netlist.specs.declared.fault.Statement.TheVariants.{Assign as AssignAt, Update as UpdateAt};
 ghost use Rattle.netlist.specs.Scopes.{collected, assign_named, update_named};
 ghost use Rattle.netlist.specs.Faults.{IsErrorBy};
-ghost use Rattle.netlist.specs.Statements.{IsOfDrivenSort, StandsForAssign, StandsForUpdate, IsGoodAssign, IsGoodUpdate, IsWrongAssign, IsWrongUpdate, IsFirstFault, fault_of};
+ghost use Rattle.netlist.specs.Statements.{IsOfDrivenSort, StandsForAssign, StandsForUpdate, IsGoodAssign, IsGoodUpdate, IsWrongAssign, IsWrongUpdate, IsAssignFault, IsUpdateFault, fault_of};
 
 use crate::fault::{NetError, NetFault, Statement};
 use crate::parts::{NamedAssign, NamedUpdate};
@@ -48,7 +47,8 @@ fn is_driven(net: Net) -> bool
 
 fn checked_assign(scope: &Scope, wiring: &Netlist, named: &NamedAssign) -> Result<Assign, Wrong>
     ensures ok { IfOk result (StandsForAssign scope.now (netlist_of wiring.now) named.now) }
-    ensures wrong { IfErr result (λ w. IsWrongAssign scope.now (netlist_of wiring.now) w named.now) }
+    ensures wrong { IfErr result
+        (λ w. IsWrongAssign scope.now (netlist_of wiring.now) w named.now) }
 {
     let Some(assign) = resolve::assign(scope, named) else {
         if resolve::assign_is_known(scope, named) {
@@ -70,7 +70,8 @@ fn checked_assign(scope: &Scope, wiring: &Netlist, named: &NamedAssign) -> Resul
 
 fn checked_update(scope: &Scope, wiring: &Netlist, named: &NamedUpdate) -> Result<Update, Wrong>
     ensures ok { IfOk result (StandsForUpdate scope.now (netlist_of wiring.now) named.now) }
-    ensures wrong { IfErr result (λ w. IsWrongUpdate scope.now (netlist_of wiring.now) w named.now) }
+    ensures wrong { IfErr result
+        (λ w. IsWrongUpdate scope.now (netlist_of wiring.now) w named.now) }
 {
     let Some(update) = resolve::update(scope, named) else {
         if resolve::update_is_known(scope, named) {
@@ -111,8 +112,8 @@ pub(crate) fn checked_assigns(
 ) -> Result<Vec<Assign>, NetError>
     ensures ok { IfOk result (λ bs. bs.items ≡ collected (assign_named scope.now) named.now) }
     ensures good { OnOk result (All (IsGoodAssign scope.now (netlist_of wiring.now)) named.now) }
-    ensures wrong { IfErr result (IsErrorBy (IsFirstFault (IsGoodAssign scope.now (netlist_of wiring.now))
-        (IsWrongAssign scope.now (netlist_of wiring.now)) (λ k. AssignAt k) named.now)) }
+    ensures wrong { IfErr result
+        (IsErrorBy (IsAssignFault scope.now (netlist_of wiring.now) named.now)) }
 {
     let mut assigns = Vec::new(alloc);
     for (k, one) in named.iter().enumerate() {
@@ -133,8 +134,8 @@ pub(crate) fn checked_updates(
 ) -> Result<Vec<Update>, NetError>
     ensures ok { IfOk result (λ vs. vs.items ≡ collected (update_named scope.now) named.now) }
     ensures good { OnOk result (All (IsGoodUpdate scope.now (netlist_of wiring.now)) named.now) }
-    ensures wrong { IfErr result (IsErrorBy (IsFirstFault (IsGoodUpdate scope.now (netlist_of wiring.now))
-        (IsWrongUpdate scope.now (netlist_of wiring.now)) (λ k. UpdateAt k) named.now)) }
+    ensures wrong { IfErr result
+        (IsErrorBy (IsUpdateFault scope.now (netlist_of wiring.now) named.now)) }
 {
     let mut updates = Vec::new(alloc);
     for (k, one) in named.iter().enumerate() {

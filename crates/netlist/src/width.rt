@@ -5,7 +5,7 @@ ghost use Rattle.wiring.specs.Rights.{atom_width as width_of_atom, operator_widt
 ghost use Rattle.wiring.specs.Netlist.{netlist_of, net_width as width_of_net, word_width as width_of_word};
 ghost use Rattle.wiring.specs.Rules.{DivisorIsConstant, IsDivisor, DividesByDivisor};
 ghost use Rattle.netlist.specs.Faults.{AssignFits, UpdateFits};
-ghost use Rattle.netlist.specs.Statements.{RightFits};
+ghost use Rattle.netlist.specs.Statements.{IsSliceOf, RightFits};
 
 use wiring::{Assign, Atom, Net, Netlist, Operator, Right, Update, Width};
 
@@ -113,8 +113,8 @@ fn bit_fits(vector: u8, place: u64, target: u8) -> bool
 }
 
 fn slice_fits(vector: u8, high: u64, low: u64, target: u8) -> bool
-    ensures yes { IsTrue result → ((2 ≤ vector) × (low ≤ high) × (high < vector)) × (high - low + 1 ≡ target) }
-    ensures no { ((2 ≤ vector) × (low ≤ high) × (high < vector)) × (high - low + 1 ≡ target) → IsTrue result }
+    ensures yes { IsTrue result → IsSliceOf vector high low target }
+    ensures no { IsSliceOf vector high low target → IsTrue result }
 {
     if vector < 2 {
         return false;

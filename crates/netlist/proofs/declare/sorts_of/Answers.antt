@@ -1,7 +1,8 @@
-use Rattle.std.proofs.Common.{refl, length, arith}
+use Rattle.std.proofs.Common.{◌∙◌, ap, refl, length, arith}
+use Rattle.std.proofs.lemmas.List.{take_all}
 use Rattle.std.proofs.lemmas.Option.{slice_get_read}
 use Rattle.netlist.specs.declared.parts.Declaration.{Declaration}
-use Rattle.netlist.specs.Scopes.{wire_width, reg_width, array_shape, SortFits}
+use Rattle.netlist.specs.Scopes.{collected, wire_width, reg_width, array_shape, SortFits}
 use Rattle.netlist.proofs.Resolving.{collected_step, before_step, before_end}
 use Rattle.netlist.proofs.declare.sorts_of.Goals as goal
 
@@ -15,5 +16,10 @@ loop-declaration-preserved c =
       fit = before_step (λ (d : Declaration). SortFits d.sort) c.args.declarations.now c.loop-declaration.declaration-index c.declaration-item.result at c.sort_law.ensures c.loop-declaration.invariant.fit;
     }
 
-pub returns-clause-fit : goal.returns-clause-fit
-returns-clause-fit c = before_end (λ (d : Declaration). SortFits d.sort) c.args.declarations.now c.loop-declaration.declaration-index (omega arith) c.loop-declaration.invariant.fit
+pub returns : goal.returns
+returns c = record {
+  wires = c.loop-declaration.invariant.wires ∙ ap (collected (λ (d : Declaration). wire_width d.sort)) (take_all c.loop-declaration.declaration-index c.args.declarations.now (omega arith));
+  regs = c.loop-declaration.invariant.regs ∙ ap (collected (λ (d : Declaration). reg_width d.sort)) (take_all c.loop-declaration.declaration-index c.args.declarations.now (omega arith));
+  arrays = c.loop-declaration.invariant.arrays ∙ ap (collected (λ (d : Declaration). array_shape d.sort)) (take_all c.loop-declaration.declaration-index c.args.declarations.now (omega arith));
+  fit = before_end (λ (d : Declaration). SortFits d.sort) c.args.declarations.now c.loop-declaration.declaration-index (omega arith) c.loop-declaration.invariant.fit;
+}
