@@ -119,6 +119,19 @@ pub record Explores (cs : List Constraint) (p flow : List ℕ) (old new : Tree) 
   -- no node is lost
   pub more : old.reached ≤ new.reached
 
+-- A search loses no node.
+pub record KeepsNodes (old new : Tree) : Type 0 where
+  -- its root stays
+  pub root : new.root ≡ old.root
+  -- it is among as many nodes
+  pub orders : length new.order.items ≡ length old.order.items
+  -- each of them has a parent
+  pub parents : length new.parent.items ≡ length old.parent.items
+  -- no fewer nodes are reached
+  pub more : old.reached ≤ new.reached
+  -- where no more are, their orders stay
+  pub same : new.reached ≡ old.reached → new.order.items ≡ old.order.items
+
 -- All that is reached from a root.
 pub record Reaches (cs : List Constraint) (p flow : List ℕ) (from : ℕ) (t : Tree) : Type 0 where
   -- it begins there

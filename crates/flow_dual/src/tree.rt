@@ -1,7 +1,7 @@
 // The nodes that are reached from a root in the residual network: by tight constraints, and by taking flow back.
 
-ghost use Rattle.std.specs.Prelude.{◌≡◌, ◌<◌, ◌≤◌, length, IfOk};
-ghost use Rattle.flow_dual.specs.Tree.{CountsReached, Explores, HangsTight, IsClosed, IsClosedAt, IsExplored, IsSearch, IsState, IsTree, Reaches};
+ghost use Rattle.std.specs.Prelude.{◌≡◌, ◌<◌, length, IfOk};
+ghost use Rattle.flow_dual.specs.Tree.{CountsReached, Explores, HangsTight, IsClosed, IsClosedAt, IsExplored, IsSearch, IsState, IsTree, KeepsNodes, Reaches};
 
 use crate::shifting::slack;
 use dk_base::OutOfMemory;
@@ -40,17 +40,12 @@ fn cross(residual: &Residual, tree: &mut Tree, i: usize)
         residual.now.flow.now
         tree.old.order.items tree.old.parent.items tree.old.root tree.old.reached }
     requires index { i < length residual.now.constraints.now }
-    ensures root { tree.new.root ≡ tree.old.root }
-    ensures orders { length tree.new.order.items ≡ length tree.old.order.items }
-    ensures parents { length tree.new.parent.items ≡ length tree.old.parent.items }
+    ensures keeps { KeepsNodes tree.old tree.new }
     ensures tree { IsTree residual.now.constraints.now residual.now.flow.now
         tree.new.order.items tree.new.parent.items tree.new.root }
     ensures tight { HangsTight residual.now.constraints.now residual.now.potentials.now
         tree.new.order.items tree.new.parent.items tree.new.root }
     ensures count { CountsReached tree.new.order.items tree.new.reached }
-    ensures more { tree.old.reached ≤ tree.new.reached }
-    ensures same { tree.new.reached ≡ tree.old.reached
-        → tree.new.order.items ≡ tree.old.order.items }
     ensures closed { tree.new.reached ≡ tree.old.reached
         → IsClosedAt residual.now.constraints.now residual.now.potentials.now
         residual.now.flow.now tree.new.order.items i }

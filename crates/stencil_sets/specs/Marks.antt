@@ -32,6 +32,20 @@ pub record AreOutputsAndKept (p : Program) (numbers : List ℕ) (xs : List Image
   -- the kept images
   pub kept : AreKeptOf p xs
 
+-- A mark for each image, and only images that are kept are marked.
+pub record AreSoundMarks (p : Program) (marks : List Bool) : Type 0 where
+  -- there is one for each
+  pub one_each : length marks ≡ length p.inputs + length p.images
+  -- those that are marked are kept
+  pub sound : (g : ℕ) → IsMarked marks g → Kept p g
+
+-- A mark for each image, and none is marked.
+pub record AreBlankMarks (p : Program) (marks : List Bool) : Type 0 where
+  -- there is one for each
+  pub one_each : length marks ≡ length p.inputs + length p.images
+  -- none is marked
+  pub none : (g : ℕ) → IsMarked marks g → ⊥
+
 -- these are marked too, where they are there, and no others
 pub record MarksMore (old new : List Bool) (P : ℕ → Type 0) : Type 0 where
   pub length_stays : length new ≡ length old

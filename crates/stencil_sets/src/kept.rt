@@ -3,9 +3,8 @@
 ghost use Rattle.std.specs.Prelude.{◌≡◌, ◌+◌, ◌<◌, ◌≤◌, ℕ, ℤ, IsTrue, OnOk, IfOk, Contains, length};
 ghost use Rattle.dk_base.specs.FrameSizes.{size_of};
 ghost use Rattle.pointwise_ir.specs.Trees.{tree_of};
-ghost use Rattle.pointwise_ir.specs.Reads.{Kept};
 ghost use Rattle.stencil_sets.specs.Paths.{IsIn, Covered, ReadsAt};
-ghost use Rattle.stencil_sets.specs.Marks.{IsMarked, AreMarks, MarksMore, MarkedSoFar};
+ghost use Rattle.stencil_sets.specs.Marks.{AreBlankMarks, AreMarks, AreSoundMarks, MarkedSoFar, MarksMore};
 
 use crate::path::Rect;
 use crate::reader::rects_of;
@@ -86,8 +85,7 @@ fn mark_outputs(kept: &mut [bool], outputs: &[u32])
 
 // Marks what marked images read, the last image first.
 fn mark_needed(alloc: Global, ir: &Program, kept: &mut [bool]) -> Result<(), OutOfMemory>
-    requires one_each { length kept.old ≡ length ir.now.inputs + length ir.now.images }
-    requires sound { (g : ℕ) → IsMarked kept.old g → Kept ir.now g }
+    requires { AreSoundMarks ir.now kept.old }
     ensures done { OnOk result (MarkedSoFar ir.now kept.old kept.new 0) }
 {
     ir.law();
@@ -106,8 +104,7 @@ fn mark_needed(alloc: Global, ir: &Program, kept: &mut [bool]) -> Result<(), Out
 
 // Marks all that is kept.
 fn mark_all(alloc: Global, ir: &Program, kept: &mut [bool]) -> Result<(), OutOfMemory>
-    requires one_each { length kept.old ≡ length ir.now.inputs + length ir.now.images }
-    requires none { (g : ℕ) → IsMarked kept.old g → ⊥ }
+    requires { AreBlankMarks ir.now kept.old }
     ensures marks { OnOk result (AreMarks ir.now kept.new) }
     ensures length { length kept.new ≡ length kept.old }
 {

@@ -2,7 +2,11 @@
 use Rattle.std.specs.Prelude.{◌≡◌, ℕ, ◌<◌, ℤ, pos, unsigned_abs, List, length, slice_index_or, if◌then◌else◌}
 use Rattle.dk_base.specs.Frames.{Size, Picture, is_below, clamped}
 use Rattle.dk_base.specs.Types.{IsIn}
+use Rattle.dk_base.specs.Operators.{scaling_value}
+use Rattle.dk_base.specs.declared.operator.Scaling.{Scaling}
+use Rattle.dk_base.specs.declared.ty.Ty.{Ty}
 use Rattle.dk_base.specs.declared.ty.Ty.TheVariants.{Signed}
+use Rattle.pointwise_ir.specs.Operands.{TakesScaled}
 use Rattle.pointwise_ir.specs.declared.expr.Edge.{Edge}
 use Rattle.pointwise_ir.specs.declared.expr.Edge.TheVariants.{Zero, Clamp}
 
@@ -28,3 +32,10 @@ beside Clamp row x = entry row (unsigned_abs (clamped (length row) x))
 -- a value of 64 bits
 abbrev pub IsNarrow : ℤ → Type 0
 IsNarrow v = IsIn (Signed 64) v
+
+-- Each of the first values of a row can be divided or shifted so, and what it then is has the type.
+pub record CanScale (op : Scaling) (by : ℕ) (t : Ty) (count : ℕ) (row : List ℤ) : Type 0 where
+  -- the operator takes it
+  pub takes : (k : ℕ) → k < count → TakesScaled op (entry row k) by
+  -- its new value is of the type
+  pub fits : (k : ℕ) → k < count → IsIn t (scaling_value op (entry row k) by)

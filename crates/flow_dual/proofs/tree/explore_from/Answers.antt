@@ -9,28 +9,28 @@ loop-k-preserved c =
       | then-i-residual+then-last-before+then-last-found w ↦
           let told = w.cross.ensures in
           rw w.tree-is (record {
-            root = told.root ∙ was.root;
+            root = told.keeps.root ∙ was.root;
             search = record {
-              orders = told.orders ∙ was.search.orders;
-              parents = told.parents ∙ was.search.parents;
+              orders = told.keeps.orders ∙ was.search.orders;
+              parents = told.keeps.parents ∙ was.search.parents;
               tree = told.tree;
               tight = told.tight;
               counted = told.count;
             };
-            more = omega (arith, told.more, was.more);
+            more = omega (arith, told.keeps.more, was.more);
           })
       | then-i-residual+else-last-before w ↦
           let told = w.cross.ensures in
           rw w.tree-is (record {
-            root = told.root ∙ was.root;
+            root = told.keeps.root ∙ was.root;
             search = record {
-              orders = told.orders ∙ was.search.orders;
-              parents = told.parents ∙ was.search.parents;
+              orders = told.keeps.orders ∙ was.search.orders;
+              parents = told.keeps.parents ∙ was.search.parents;
               tree = told.tree;
               tight = told.tight;
               counted = told.count;
             };
-            more = omega (arith, told.more, was.more);
+            more = omega (arith, told.keeps.more, was.more);
           })
       | else-i-residual w ↦ rw w.tree-is was
     ]

@@ -12,21 +12,21 @@ loop-i-preserved c =
     let before = c.loop-i.tree.reached in
     let after = c.cross.new.tree.reached in
     record {
-      root = told.root ∙ was.root;
+      root = told.keeps.root ∙ was.root;
       search = record {
-        orders = told.orders ∙ was.search.orders;
-        parents = told.parents ∙ was.search.parents;
+        orders = told.keeps.orders ∙ was.search.orders;
+        parents = told.keeps.parents ∙ was.search.parents;
         tree = told.tree;
         tight = told.tight;
         counted = told.count;
       };
-      more = omega (arith, told.more, was.more);
+      more = omega (arith, told.keeps.more, was.more);
       closed = λ unchanged k below.
-          let same : after ≡ before = omega (arith, told.more, was.more, unchanged) in
-          let still : before ≡ first = omega (arith, told.more, was.more, unchanged) in
+          let same : after ≡ before = omega (arith, told.keeps.more, was.more, unchanged) in
+          let still : before ≡ first = omega (arith, told.keeps.more, was.more, unchanged) in
           elim (cases_lt k c.loop-i.i) [
             | inl earlier ↦ subst (λ order. IsClosedAt residual.constraints.now residual.potentials.now residual.flow.now order k)
-                (sym (told.same same)) (was.closed still k earlier)
+                (sym (told.keeps.same same)) (was.closed still k earlier)
             | inr later ↦ let here : k ≡ c.loop-i.i = omega arith in
                 subst (λ j. IsClosedAt residual.constraints.now residual.potentials.now residual.flow.now c.cross.new.tree.order.items j) (sym here) (told.closed same)
           ];
