@@ -24,8 +24,8 @@ loop-age-preserved c =
       goes_on = λ all rest are inside d.
           let adds = c.in_ok-add_arrays.ensures all are (inside _ (c.loop-age.invariant.among _ (next_segment low ages k there))) in
           let more : AreDivided c.args.least all low (drop k ages) (ages_after low adds.arrays ++ rest) =
-            subst (λ (l : List ℕ). AreDivided c.args.least all low l (ages_after low adds.arrays ++ rest)) (sym (drop_here ages k 0 there))
-            (divided_more c.args.least all low (slice_index ages k) (drop (k + 1) ages) adds.arrays rest (c.loop-age.invariant.below there) adds.are d) in
+          subst (λ (l : List ℕ). AreDivided c.args.least all low l (ages_after low adds.arrays ++ rest)) (sym (drop_here ages k 0 there))
+          (divided_more c.args.least all low (slice_index ages k) (drop (k + 1) ages) adds.arrays rest (c.loop-age.invariant.below there) adds.are d) in
           subst (AreDivided c.args.least all 0 ages) (sym (append_assoc before (ages_after low adds.arrays) rest) ∙ ap (λ (l : List ℕ). l ++ rest) (sym adds.added))
           (c.loop-age.invariant.goes_on all (ages_after low adds.arrays ++ rest) are inside more);
     }
