@@ -240,11 +240,11 @@ pub record IsUndone (made : List (List ℕ)) (spare : ArrayRoom) (u : Undo) (old
 
 -- What the first n arrays were given can be taken back.
 pub record CanUndoAll (made : List (List ℕ)) (spare : ArrayRoom) (all : Accesses) (taken arrays : List (Vec ℕ Global)) (n : ℕ) : Type 0 where
-  -- there are so many arrays
+  -- there are n arrays
   pub done : n ≤ length arrays
-  -- and so many puts
+  -- and n puts
   pub puts : n ≤ length all.puts.now
-  -- and so many rows of what was taken away
+  -- and n rows of what was taken away
   pub lost : n ≤ length taken
   -- the rows of their indexes and values have these clocks
   pub atoms : HavePutRows made all.count all.puts.now

@@ -85,7 +85,7 @@ pub record JudgesRows (e : Engine) (made : List (List ℕ)) (p : Piece) (old new
 
 -- Rows have room for this many clocks of this many arrays.
 pub record HasRoomFor (made : Rows) (arrays count : ℕ) : Type 0 where
-  -- a piece may have so many clocks
+  -- a piece may have `count` clocks
   pub most : count ≤ made.size
   -- spare rows have them
   pub room : IsPassRoom made.room count

@@ -54,7 +54,7 @@ pub record CanStep (m : Netlist) (p : Piece) (places : List Out) : Type 0 where
   -- each clock of the batch has places for its outputs
   pub outs : HavePlaces m p.inputs places
 
--- A machine over the clocks of a piece, as they were made one after another.
+-- The clocks of a piece: they took place, or one of them stops.
 pub record IsStepped (m now : Netlist) (p : Piece) (mid to : Contents) (old new : List Out) (result : Result (Unit {0}) Stop) : Type 0 where
   -- its netlist is the same
   pub netlist : now ≡ m
@@ -63,5 +63,6 @@ pub record IsStepped (m now : Netlist) (p : Piece) (mid to : Contents) (old new 
   -- Stop: one of them stops
   pub stops : IfErr result (PieceStops m p mid to old new)
 
+-- a machine over the clocks of a piece
 abbrev pub StepsPiece : (before after : Machine) → Piece → (old new : List Out) → Result (Unit {0}) Stop → Type 0
 StepsPiece before after p old new result = IsStepped before.netlist after.netlist p before.contents after.contents old new result

@@ -113,7 +113,7 @@ pub record IsSlotOf (p : Place) (s : Slot) : Type 0 where
   -- the word by its number
   pub word : s.word ≡ p.word
 
--- The number of the first array of an image, which is that of few.
+-- The number of an image's first array.
 pub record IsFirstArray (shapes : Shapes) (plan : Plan) (g n : ℕ) : Type 0 where
   -- as many arrays as the kept images before it have
   pub first : n ≡ first_array shapes plan g

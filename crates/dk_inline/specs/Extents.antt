@@ -11,14 +11,14 @@ use Rattle.dk_inline.specs.Nodes.{nodes_of}
 abbrev pub saturated : ℕ → ℕ
 saturated n = min n 18446744073709551615
 
--- An extent of so many nodes and so deep.
+-- An extent of `count` nodes and `levels` deep.
 pub record HasExtent (x : Extent) (count levels : ℕ) : Type 0 where
   -- its nodes
   pub nodes : x.nodes ≡ count
   -- its depth
   pub depth : x.depth ≡ levels
 
--- what reads of this many images add that are not inline: nothing
+-- reads of this many images, which are not inline, add nothing
 pub record AreUnread (known : List (Option Extent)) (count : ℕ) : Type 0 where
   -- there is one for each
   pub long : length known ≡ count
@@ -44,7 +44,7 @@ pub record HaveExtents (p : Typing) (extents : List Extent) : Type 0 where
   pub long : length extents ≡ length p.definitions
   pub each : (k : ℕ) (d : Definition) (x : Extent) → slice_get p.definitions k ≡ Some d → slice_get extents k ≡ Some x → IsExtent x (inlined_body (substitutes p) d)
 
--- That of the definition of this number is among them.
+-- The extent of the definition of this number is among them.
 pub record HaveExtentAt (p : Typing) (all : List Extent) (place : ℕ) : Type 0 where
   -- they are of the definitions' inlined bodies
   pub extents : HaveExtents p all

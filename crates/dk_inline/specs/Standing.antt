@@ -85,11 +85,11 @@ pub record IsConstantIn (e : Tree) (result : Option Constant) : Type 0 where
   -- it is none
   pub none : IfNone result (IsConstant e → ⊥)
 
--- The constant that an expression is worth, or None and this fact.
+-- The constant that an expression is worth, or None where `otherwise` is so.
 pub record FindsConstant (e : Tree) (otherwise : Type 0) (result : Option Constant) : Type 0 where
   -- it is worth the constant
   pub found : IfSome result (λ c. IsWorth e c.value c.ty)
-  -- there is none
+  -- None: `otherwise` is so
   pub none : IfNone result otherwise
 
 -- d' is d with its body folded: the new body may replace that of d, and has folded parts

@@ -52,7 +52,7 @@ pub record CountsReached (order : List ℕ) (count : ℕ) : Type 0 where
 abbrev pub AreSmall : List ℕ → Type 0
 AreSmall p = (v : ℕ) → slice_index p v < 2 ^ 60
 
--- Constraints of small costs between so many nodes.
+-- Constraints of small costs between `count` nodes.
 pub record IsNetwork (count : ℕ) (cs : List Constraint) : Type 0 where
   -- each leads from a node
   pub sources : All (λ c. c.source < count) cs
@@ -171,27 +171,27 @@ pub record Pushes (cs : List Constraint) (order parent : List ℕ) (root node : 
   -- on no constraint it grows by more
   pub grows : (i : ℕ) → slice_index new i ≤ slice_index old i + amount
 
--- The numbers of the nodes that are reached go up by so much.
+-- The numbers of the nodes that are reached go up by `by`.
 pub record Shifts (order old new : List ℕ) (by : ℕ) : Type 0 where
   -- those that are reached
   pub reached : (v : ℕ) → 0 < slice_index order v → slice_index new v ≡ slice_index old v + by
   -- the others stay
   pub others : (v : ℕ) → slice_index order v ≡ 0 → slice_index new v ≡ slice_index old v
 
--- The numbers of the nodes that are not reached go down by so much.
+-- The numbers of the nodes that are not reached go down by `by`.
 pub record Sinks (order old new : List ℕ) (by : ℕ) : Type 0 where
   -- those that are reached stay
   pub reached : (v : ℕ) → 0 < slice_index order v → slice_index new v ≡ slice_index old v
   -- the others
   pub others : (v : ℕ) → slice_index order v ≡ 0 → slice_index new v ≡ slice_index old v - by
 
--- The widths of the images before this one are sent.
-pub record IsSent (cs : List Constraint) (p flow : List ℕ) (image : ℕ) : Type 0 where
+-- Numbers and a flow that keep the constraints, within limits that grow with each image before this one.
+pub record IsStateAfter (cs : List Constraint) (p flow : List ℕ) (image : ℕ) : Type 0 where
   -- there is a flow on each constraint
   pub flows : length flow ≡ length cs
-  -- the numbers grew by so much an image
+  -- each number is at most 2^41, and 2^36 more for each image
   pub numbers : (v : ℕ) → slice_index p v ≤ 2 ^ 41 + image * 2 ^ 36
-  -- and the flows by no more than a width
+  -- each flow is at most 2^8 for each image
   pub amounts : (i : ℕ) → slice_index flow i ≤ image * 2 ^ 8
   -- the numbers keep each constraint
   pub holds : All (Holds p) cs
@@ -202,12 +202,12 @@ pub record IsSent (cs : List Constraint) (p flow : List ℕ) (image : ℕ) : Typ
 abbrev pub StopsTight : List Constraint → List ℕ → List ℕ → Type 0
 StopsTight cs p order = (i : ℕ) → i < length cs → 0 < slice_index order (constraint_at cs i).source → IsTight p (constraint_at cs i) → 0 < slice_index order (constraint_at cs i).target
 
--- a constraint that leads from a node that is reached to one that is not has so much to spare
+-- a constraint that leads from a node that is reached to one that is not has `by` to spare
 abbrev pub LeavesRoom : List Constraint → List ℕ → List ℕ → ℕ → Type 0
 LeavesRoom cs p order by = (i : ℕ) → i < length cs → 0 < slice_index order (constraint_at cs i).source → slice_index order (constraint_at cs i).target ≡ 0
     → (pos (slice_index p (constraint_at cs i).source) +ℤ (constraint_at cs i).cost +ℤ pos by) ≤ℤ pos (slice_index p (constraint_at cs i).target)
 
--- So much that the constraints leave room for, and not nothing.
+-- A number above 0 that the constraints have to spare.
 pub record IsSlack (cs : List Constraint) (p order : List ℕ) (by : ℕ) : Type 0 where
   -- it is not nothing
   pub positive : 0 < by
@@ -228,7 +228,7 @@ pub record IsSettled (cs : List Constraint) (flow p : List ℕ) : Type 0 where
   pub least : (d : List ℕ) → All (Holds d) cs → IsComplementary cs flow d
       → (v : ℕ) → v < length p → slice_index p v ≤ slice_index d v
 
--- Few constraints, and a flow on each of at most so much.
+-- At most 2^14 constraints, and a flow of at most 2^32 on each.
 pub record IsSmallFlow (cs : List Constraint) (flow : List ℕ) : Type 0 where
   -- there is a flow on each
   pub flows : length flow ≡ length cs
@@ -237,7 +237,7 @@ pub record IsSmallFlow (cs : List Constraint) (flow : List ℕ) : Type 0 where
   -- none is great
   pub amounts : (i : ℕ) → slice_index flow i ≤ 2 ^ 32
 
--- A sum at each of so many nodes, none of them great.
+-- A sum at each of `count` nodes, of at most 2^46.
 pub record AreSums (count : ℕ) (sums : List ℕ) : Type 0 where
   -- there is one for each
   pub length_is : length sums ≡ count
@@ -246,7 +246,7 @@ pub record AreSums (count : ℕ) (sums : List ℕ) : Type 0 where
 
 -- They are these sums.
 pub record AreSumsOf (count : ℕ) (of_node : ℕ → ℕ) (sums : List ℕ) : Type 0 where
-  -- there is one at each node, none of them great
+  -- there is one at each node, of at most 2^46
   pub sums_are : AreSums count sums
   -- each is that of its node
   pub value : (v : ℕ) → slice_index sums v ≡ of_node v

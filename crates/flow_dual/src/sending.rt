@@ -4,7 +4,7 @@ ghost use Rattle.std.specs.Prelude.{◌<◌, ◌≤◌, ◌+◌, length, OnOk};
 ghost use Rattle.dk_base.specs.declared.TheConstants.{MAX_KEPT_IMAGES};
 ghost use Rattle.raster_delay.specs.Network.{constraint_at};
 ghost use Rattle.flow_dual.specs.Solutions.{IsGreatest, IsStart};
-ghost use Rattle.flow_dual.specs.Tree.{IsHold, IsNetwork, IsSent, Moves};
+ghost use Rattle.flow_dual.specs.Tree.{IsHold, IsNetwork, IsStateAfter, Moves};
 
 use crate::pushing::{Paths, push};
 use crate::shifting::{least_slack, raise};
@@ -26,9 +26,9 @@ fn send(
     requires nodes { length numbers.old ≤ 528 }
     requires images { image < MAX_KEPT_IMAGES }
     requires hold { IsHold network.now.constraints.now image }
-    requires sent { IsSent network.now.constraints.now numbers.old flow.old image }
+    requires sent { IsStateAfter network.now.constraints.now numbers.old flow.old image }
     ensures sent { OnOk result
-        (IsSent network.now.constraints.now numbers.new flow.new (image + 1)) }
+        (IsStateAfter network.now.constraints.now numbers.new flow.new (image + 1)) }
     ensures moves { OnOk result (Moves network.now.constraints.now flow.old flow.new
         (constraint_at network.now.constraints.now image).source
         (constraint_at network.now.constraints.now image).target width) }

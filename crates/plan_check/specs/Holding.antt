@@ -23,7 +23,7 @@ widths_of images = map (λ i. i.width) images
 abbrev pub delays : Report → List ℕ
 delays r = delays_of r.images
 
--- a read of image g is at least so old
+-- a read of image g is at least `age` clocks old
 abbrev pub IsOldOf : (row age : ℕ) → (delays : List ℕ) → (g : ℕ) → PlacedRead → Type 0
 IsOldOf row age d g r = r.g ≡ g → pos age ≤ℤ age_of row d r
 

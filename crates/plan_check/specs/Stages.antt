@@ -25,7 +25,7 @@ pub record HasFewLines (r : Report) : Type 0 where
   -- the latency lines
   pub latencies : length r.latencies ≤ MAX_OUTPUTS
 
--- So many lines are before the flow lines, after that of the bits, and so many after the flow lines.
+-- `count` lines are between the line of the bits and the flow lines, and `count` after the flow lines.
 pub record SurroundsFlow (r : Report) (count : ℕ) : Type 0 where
   -- that of the reads, where the version has it
   pub before : count ≡ length (unless_first r.version (reads_line r.reads ∷ []))

@@ -86,7 +86,7 @@ pub record IsBounded (s : System) (c : Constraint) : Type 0 where
   -- its cost is small
   pub cost : IsSmall c
 
--- Sums at the nodes of a system, of what is brought and of what is taken, each at most so much.
+-- Sums at the nodes of a system, of what is brought and of what is taken, each at most `most`.
 pub record AreSums (s : System) (most : ℕ) (brought taken : List ℕ) : Type 0 where
   -- what is brought has a place for each node
   pub some_brought : nodes s ≤ length brought
@@ -99,9 +99,9 @@ pub record AreSums (s : System) (most : ℕ) (brought taken : List ℕ) : Type 0
 
 -- An amount is added to the sum of one node.
 pub record AddsAt (old new : List ℕ) (node amount : ℕ) : Type 0 where
-  -- the others stay
+  -- the sum of this node grows by the amount, and the others stay
   pub value : (v : ℕ) → slice_index new v ≡ slice_index old v + (if node == v then amount else 0)
-  -- no sum grows by more than an amount
+  -- no sum grows by more than 2^64
   pub most : (v : ℕ) → slice_index new v ≤ slice_index old v + 2 ^ 64
 
 -- The sums of some flow lines at the nodes of a system.
@@ -117,9 +117,9 @@ pub record Tallies (s : System) (lines : List FlowLine) (into out : List ℕ) : 
 pub record IsPrice (cost : ℤ) (amount : ℕ) (price : ℤ) : Type 0 where
   -- it is the product
   pub value : price ≡ cost *ℤ pos amount
-  -- which is no less than this
+  -- which is at least -2^89
   pub least : neg_ℤ (pos (2 ^ 89)) ≤ℤ price
-  -- and no more than this
+  -- and at most 2^89
   pub most : price ≤ℤ pos (2 ^ 89)
 
 -- at each node what flows in less what flows out is the coefficient, and the sum of cost times flow is the bits

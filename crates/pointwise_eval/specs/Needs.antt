@@ -12,14 +12,14 @@ IsNeeded until n g = n < slice_index until g
 abbrev pub KeepsNeeds : (old new : List ℕ) → Type 0
 KeepsNeeds old new = (n g : ℕ) → IsNeeded old n g → IsNeeded new n g
 
--- A note on an image that is there, after so many images.
+-- A note on an image that is there, behind `behind` images.
 pub record IsNote (count image behind : ℕ) : Type 0 where
   -- the image is there
   pub there : image < count
   -- there are not too many images
   pub few : behind < 2 ^ 62
 
--- An image is noted as needed after so many images.
+-- An image is noted as needed after the first `behind`.
 pub record Notes (old new : List ℕ) (behind image : ℕ) : Type 0 where
   -- it is needed
   pub needed : IsNeeded new behind image
@@ -28,7 +28,7 @@ pub record Notes (old new : List ℕ) (behind image : ℕ) : Type 0 where
   -- the notes of the others stay
   pub others : (g : ℕ) → g ≢ image → slice_get new g ≡ slice_get old g
 
--- The images that an expression reads are noted as needed after so many images.
+-- The images that an expression reads are noted as needed after the first `behind`.
 pub record NotesReads (old new : List ℕ) (behind : ℕ) (e : Tree) : Type 0 where
   -- they are needed
   pub reads : EachImage (IsNeeded new behind) e
@@ -37,7 +37,7 @@ pub record NotesReads (old new : List ℕ) (behind : ℕ) (e : Tree) : Type 0 wh
   -- the notes of images after all that it reads stay
   pub others : (n : ℕ) → EachImage (λ g. g < n) e → (g : ℕ) → n ≤ g → slice_get new g ≡ slice_get old g
 
--- Of the images with these bodies, after so many inputs: where one is needed after itself, what it reads is needed up to it.
+-- Of the images with these bodies, after the inputs: where one is needed after itself, what it reads is needed up to it.
 pub record NotesBodies (old new : List ℕ) (inputs : ℕ) (bodies : List Tree) : Type 0 where
   -- no note is taken back
   pub kept : KeepsNeeds old new

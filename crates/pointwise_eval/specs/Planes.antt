@@ -130,10 +130,10 @@ pub record DropsSome (until : List ℕ) (n : ℕ) (old new : List Plane) : Type 
   pub count : length new ≡ length old
   -- each that is needed is there
   pub kept : (g : ℕ) → IsNeeded until n g → slice_get new g ≡ slice_get old g
-  -- no other is changed
+  -- each is as before, or gone
   pub each : (g : ℕ) → AreSameOrGone (slice_get old g) (slice_get new g)
 
--- The plane of one image is gone, where it is not needed any more after the first n.
+-- The plane of one image may be gone, where it is not needed after the first n.
 pub record DropsOne (image limit n : ℕ) (old new : List Plane) : Type 0 where
   -- the others stay
   pub others : (g : ℕ) → g ≢ image → slice_get new g ≡ slice_get old g

@@ -108,20 +108,20 @@ row_of header s = take (row_length header) s.row.items
 abbrev pub row_clocks : Header → Stream → List Clock
 row_clocks header s = pixel_clocks (samples_in header.maxval (row_of header s)) s.format.size.width
 
--- A sample can be added: there is room for it, it is none above the greatest, and the lines so far are few.
+-- A sample can be added: there is room for it, it is at most the greatest, and the lines so far are few.
 pub record CanShow (format : OutputFormat) (line : Line) (o : Outside) (sample : ℕ) : Type 0 where
   -- there is room
   pub can : CanAdd format line o
-  -- it is none above the greatest
+  -- it is at most the greatest
   pub dout : sample ≤ format.maxval
-  -- the lines can be counted on
+  -- the count of lines stays below 2^64
   pub few : line.rows < 2 ^ 63
 
 -- Clocks can be made, and fewer lines than this were made so far.
 pub record IsReadyFor (most : ℕ) (s : Stream) (o : Outside) : Type 0 where
   -- they can be made
   pub ready : IsReady s o
-  -- the lines can be counted on
+  -- the count of lines stays below 2^64
   pub few : s.line.rows < most
 
 -- `rows` lines of an image with this header were read and clocked by the stream.
@@ -140,7 +140,7 @@ EndsInRows header old f before now = EndsRows (kind_of old.format) old.sim.netli
 pub record StreamsOrEnds {E : Type 0} (result : Result (Unit {0}) E) (reading writing : E) (ends : E → Type 0) (header : Header) (rows most : ℕ) (old new : Stream) (before now : Outside) : Type 0 where
   -- what every call keeps
   pub keeps : Keeps old new
-  -- Ok: the next clocks can be made, and at most so many lines were made
+  -- Ok: the next clocks can be made, and at most `most` lines were made
   pub more : OnOk result (CanGoOn most old new now)
   -- Ok: all of the lines were streamed
   pub ok : OnOk result (StreamsLines header rows old new before now)

@@ -133,7 +133,7 @@ pub record IsRun (a b : ℕ) (row from end : ℤ) (f g : ℕ) (dx dy : ℤ) : Ty
   pub low : from ≤ℤ dx
   pub high : dx <ℤ end
 
--- The reads that a rectangle has in one row from one column offset on are found, up to before another.
+-- Where the search of a rectangle's row ends: at column offset `end`.
 pub record IsPartEnd (reads : List LiveRead) (f g : ℕ) (rect : Rect) (row from end : ℤ) : Type 0 where
   -- what follows is behind all that are found
   pub before : AllBefore reads (the f g end row)
@@ -146,12 +146,12 @@ pub record AddsRead {T : Type 0} (old new : List LiveRead) (read : LiveRead) (re
   pub order : AreInOrder new
   -- it is the last
   pub items : OnOk result (new ≡ old ++ read ∷ [])
-  -- it is not added only where there are too many, or no memory
+  -- it is left out only if there are too many reads or memory is out
   pub stopped : IfErr result (λ halt. Stopped halt new)
   -- and then all stays
   pub same : OnErr result (new ≡ old)
 
--- A function adds the reads of a kind to those that are found. Where it does not end early, `next` is so of its value.
+-- The reads of a kind, added to those that are found. If all were added, `next` holds of the value.
 pub record Finds {T : Type 0} (old new : List LiveRead) (kind : (f g : ℕ) → (dx dy : ℤ) → Type 0) (result : Result T Halt) (next : T → Type 0) : Type 0 where
   -- all are in order, also where it ends early
   pub order : AreInOrder new

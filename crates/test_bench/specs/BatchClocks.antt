@@ -86,7 +86,7 @@ DoutsAreSmall outs = All (λ (out : Out). out.dout < 2 ^ MAX_PORT_WIDTH) outs
 
 -- Pictures to which outputs of clocks were added.
 pub record ArePictures (most number : ℕ) (pictures : List Shown) : Type 0 where
-  -- there are so many
+  -- there are `number` of them
   pub count : length pictures ≡ number
   -- each has room for its samples
   pub room : HaveRoomFor most pictures

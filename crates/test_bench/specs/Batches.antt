@@ -29,7 +29,7 @@ pub record HasPlacesFor (more inputs : ℕ) (batch : Batch) : Type 0 where
 
 -- A batch that was given clocks, of this many dins each.
 pub record IsGiven (inputs most : ℕ) (old new : Batch) : Type 0 where
-  -- it has at most so many
+  -- it has at most `most`
   pub count : length new.enables.items ≤ most
   -- each has all dins
   pub whole : length new.dins.items ≡ length new.enables.items * inputs

@@ -82,7 +82,7 @@ pub record IsFed (m : Netlist) (size : Size) (feed : Feed) (rounds : List Round)
   pub held : feed.held.items ≡ greatest_dins (din_widths m)
   pub frames : AreBenchFrames (din_widths m) size rounds
 
--- the clocks of these pixels, counted from one, with the held clocks between them
+-- the clocks of `count` pixels, from pixel `start` on, with the held clocks between them
 abbrev pub pixel_clocks : Netlist → Feed → List Round → (start count : ℕ) → List Clock
 pixel_clocks m feed rounds start count = flat_map (clocks_at feed.hold (din_widths m) (rounds_of rounds)) (range_with_len start count)
 
@@ -112,7 +112,7 @@ pub record HasStopped (clocks : List Clock) (old : Bench) (before now : Outside)
 abbrev pub Drives : List Clock → (old new : Bench) → (before now : Outside) → Result (Unit {0}) Stop → Type 0
 Drives clocks old new before now result = MatchResult result (λ _. HasDriven clocks old new before now) (HasStopped clocks old before now)
 
--- A bench that goes through the clocks of pixels, counted from one, with its notes.
+-- A bench that goes through the clocks of `count` pixels, from pixel `start` on, with its notes.
 pub record HasDrivenPixels (feed : Feed) (rounds : List Round) (start count : ℕ) (old new : Bench) (before now : Outside) : Type 0 where
   -- there are at most two clocks for each pixel
   pub few : new.made ≤ old.made + 2 * count

@@ -1,7 +1,6 @@
 // The clocks of a test bench.
 
 ghost use Rattle.std.specs.Prelude.{◌≡◌, ◌+◌, ◌*◌, ◌^◌, ◌<◌, ◌≤◌, ◌++◌, [], ◌∷◌, List, length, IfErr, OnOk, pos, ◌-ℤ◌};
-ghost use Rattle.std.specs.List.{All};
 ghost use Rattle.wiring.specs.Snapshot.{Snapshot, Fit};
 ghost use Rattle.test_bench.specs.declared.batch.TheConstants.{BATCH_PIXELS};
 ghost use Rattle.test_bench.specs.BatchClocks.{AddsShown, ArePictures, AreShownIn, DoutsAreSmall, HasClocks, clocks_of, pairs_of};

@@ -1,7 +1,6 @@
 // The clocks of a trace.
 
 ghost use Rattle.std.specs.Prelude.{◌≡◌, ◌+◌, ◌^◌, ◌<◌, ◌≤◌, [], ◌∷◌, pos, ◌-ℤ◌, None, Err, true, length, IfErr, OnOk, vec_capacity};
-ghost use Rattle.dk_desk.specs.Calls.{Adds};
 ghost use Rattle.wiring.specs.Snapshot.{Snapshot, Fit};
 ghost use Rattle.cycle_sim.specs.Slots.{all_values, all_widths};
 ghost use Rattle.cycle_sim.specs.Ports.{din_widths};
