@@ -1,5 +1,5 @@
 -- The theorem of the compiler, from what is proved of a compiled text.
-use Rattle.std.proofs.Common.{mul-pos, ◌≡◌, ◌⊎◌, inl, inr, arith, ℕ, suc, ◌-◌, ◌*◌, ◌/◌, ◌^◌, ◌<◌, ◌≤◌, Bool, true, false, List, [], ◌∷◌, ◌++◌, length, map, Option, None, refl, sym, ap, subst, ◌∙◌}
+use Rattle.std.proofs.Common.{mul-pos, ◌≡◌, ◌⊎◌, inl, inr, arith, ℕ, suc, ◌+◌, ◌-◌, ◌*◌, ◌/◌, ◌^◌, ◌<◌, ◌≤◌, Bool, true, false, List, [], ◌∷◌, ◌++◌, length, map, Option, None, refl, sym, ap, subst, ◌∙◌}
 use Rattle.std.specs.Prelude.{ℤ, pos, slice_index, slice_index_or, All, IsTrue, not, ◌&&◌, nat_le, if◌then◌else◌}
 use Rattle.std.specs.List.{AllZip}
 use Rattle.std.proofs.Math.Nat.{mul-div_cancel}
