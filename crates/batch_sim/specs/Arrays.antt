@@ -44,7 +44,7 @@ pub record TriesArray (result : Bool) (old new taken : List ℕ) (clocks : ℕ) 
   -- false: its words are as before
   pub back : IsFalse result → new ≡ old
 
--- the same, over the numbers of its rows
+-- `TriesArray` over the numbers of its rows
 abbrev pub TriesNumbers : (result : Bool) → (old new taken : List ℕ) → (clocks : ℕ) → AccessNumbers → Type 0
 TriesNumbers result old new taken clocks a = TriesArray result old new taken clocks (numbers_in a.read) (numbers_in a.index) (numbers_in a.value) (numbers_in a.target)
 
@@ -76,7 +76,7 @@ pub record PassesArray (made : List (List ℕ)) (r : WordRead) (p : WordPut) (co
   -- false: its words are as before
   pub back : IsFalse result → new ≡ old
 
--- the same of an access
+-- `PassesArray` of an access
 abbrev pub PassesAccess : List (List ℕ) → Access → Bool → (old new taken : List ℕ) → Type 0
 PassesAccess made a result old new taken = PassesArray made a.read.now a.put.now a.count result old new taken
 

@@ -56,7 +56,7 @@ pub record CanKeep (made : List Row) (spare : List ℕ) (reg : ℕ) (after : Ato
   -- and so has a spare row
   pub room : count ≤ length spare
 
--- The same of all registers with these contents and next values, whose rows begin with the first one.
+-- `CanKeep` of all registers with these contents and next values, whose rows begin with the first one.
 pub record CanKeepAll (made : List Row) (spare : List ℕ) (first : ℕ) (later : List (Atom ℕ)) (contents : List ℕ) (count : ℕ) : Type 0 where
   -- each register has a row
   pub slots : first + length later ≤ length made

@@ -47,7 +47,7 @@ pub record HasRun (m now : Netlist) (output : ℕ) (clocks : List Clock) (from t
   pub netlist : now ≡ m
   -- the samples have what the output showed
   pub ok : Ran m output clocks from old.items to new.items
-  -- at most so many were added
+  -- at most `most` were added
   pub count : vec_len new ≤ vec_len old + most
   -- there is room for as many as before
   pub capacity : vec_capacity new ≡ vec_capacity old
@@ -58,7 +58,7 @@ pub record HasRunToStop (m now : Netlist) (output : ℕ) (clocks : List Clock) (
   pub netlist : now ≡ m
   -- the samples have what the output showed in the clocks before
   pub stop : RanToStop m output clocks from old.items to new.items range.array range.index
-  -- at most so many were added
+  -- at most `most` were added
   pub count : vec_len new ≤ vec_len old + most
   -- there is room for as many as before
   pub capacity : vec_capacity new ≡ vec_capacity old

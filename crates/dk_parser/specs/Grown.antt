@@ -35,7 +35,7 @@ pub record GrownOf (P : Phrases Token Tree) (ts : Tokens) (built : Built) (rest 
 abbrev pub ReadsAs : {A V : Type 0} → (gives : Tokens → A → Tokens → Type 0) → Phrases Token V → Tokens → Result (A × Bor Tokens) Halt → Type 0
 ReadsAs gives phrase ts result = MatchResult result (λ x. gives ts x.0 x.1.now) (λ e. Halts phrase ts e)
 
--- it gives the phrase itself
+-- it gives the value of the phrase
 abbrev pub ReadsPhrase : {V : Type 0} → Phrases Token V → Tokens → Result (V × Bor Tokens) Halt → Type 0
 ReadsPhrase phrase ts result = ReadsAs phrase phrase ts result
 

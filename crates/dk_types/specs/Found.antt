@@ -29,13 +29,13 @@ pub record IsOperand (scope : Scope) (e : Tree) (o : Operand) : Type 0 where
 abbrev pub Judged : Scope → Tree → Result TypedExpr TypeError → Type 0
 Judged scope e r = MatchResult r (λ t. IsTypedAs scope e t) (λ stop. Stops (Faulty scope e) stop)
 
--- The type that an operator gives, or what is told where it gives none.
+-- The type that an operator gives, or what is reported where it gives none.
 pub record GivesType (given : Option Ty) (tells : TypeError → Type 0) (result : Result Ty TypeError) : Type 0 where
   -- it is the operator's
   pub typed : IfOk result (λ t. given ≡ Some t)
   -- it has 1 to 64 bits
   pub is_type : IfOk result (λ t. IsType t)
-  -- this is told
+  -- this is reported
   pub faulty : IfErr result tells
 
 -- the number of this offset is too great

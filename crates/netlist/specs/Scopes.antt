@@ -234,6 +234,7 @@ SortFits (OfWire w) = IsWidth w
 SortFits (OfReg w) = IsWidth w
 SortFits (OfArray s) = IsShape s
 
+-- each declaration is of a size in its range
 abbrev pub AreSized : List Declaration → Type 0
 AreSized ds = All (λ (d : Declaration). SortFits d.sort) ds
 
@@ -246,10 +247,11 @@ pub record SizesFit (p : Parts) : Type 0 where
   pub assigns : All (λ (a : NamedAssign). All IsConstant (constants_of a.right)) p.assigns.items
   pub updates : All (λ (u : NamedUpdate). All IsConstant (update_constants u)) p.updates.items
 
--- the names are names, as the types of the parts keep them
+-- each declaration has a name
 abbrev pub AreNamed : List Declaration → Type 0
 AreNamed ds = All (λ (d : Declaration). is_name d.name ≡ true) ds
 
+-- the names are names, as the types of the parts keep them
 pub record NamesAre (p : Parts) : Type 0 where
   pub «module» : is_name p.name ≡ true
   pub declarations : All (λ (d : Declaration). is_name d.name ≡ true) p.declarations.items

@@ -84,10 +84,11 @@ pub record IsFirstFault {X : Type 0} (Good : X → Type 0) (Bad : Wrong → X �
   pub fault : f ≡ fault_of wrong (statement place)
   pub first : FirstWrong Good (Bad wrong) items place
 
--- the fault of the first assign that is wrong, and of the first update
+-- the fault of the first assign that is wrong
 abbrev pub IsAssignFault : List Entry → Netlist → List NamedAssign → NetFault → Type 0
 IsAssignFault scope m named f = IsFirstFault (IsGoodAssign scope m) (IsWrongAssign scope m) (λ k. AssignAt k) named f
 
+-- the fault of the first update that is wrong
 abbrev pub IsUpdateFault : List Entry → Netlist → List NamedUpdate → NetFault → Type 0
 IsUpdateFault scope m named f = IsFirstFault (IsGoodUpdate scope m) (IsWrongUpdate scope m) (λ k. UpdateAt k) named f
 

@@ -79,6 +79,6 @@ AreClosed {X} d drive xs = All (λ (x : X). IsClosed d (drive x)) xs
 abbrev pub IsOpenAmong : {X : Type 0} → Marks → (drive : X → Drive) → List X → Holder → Type 0
 IsOpenAmong {X} d drive xs h = (k : ℕ) × (x : X) × (slice_get xs k ≡ Some x) × IsOpen d (drive x) h
 
--- this test is whether it is open, by its own target
+-- true: the drive is open, at its target; false: it is closed
 abbrev pub TestsOpen : Bool → Marks → Drive → Type 0
 TestsOpen result d drive = MatchBool result (IsOpen d drive drive.target) (IsClosed d drive)

@@ -30,7 +30,7 @@ pub record IsSearch (assigns : List Assign) (marks : List Mark) (path : List Vis
   pub order_once : (p q k : ℕ) → slice_get order p ≡ Some k → slice_get order q ≡ Some k → p ≡ q
   pub behind : (p j k : ℕ) → slice_get order p ≡ Some k → Feeds assigns j k → (q : ℕ) × (q < p) × (slice_get order q ≡ Some j)
 
--- the same of a search's own lists
+-- a search whose marks, path and order are sound
 abbrev pub IsSearchOf : List Assign → Search → Type 0
 IsSearchOf assigns search = IsSearch assigns search.marks.items search.path.items search.order.items
 
