@@ -106,18 +106,18 @@ ring_places plan g age t = ring_place (first_array ring_shapes_of plan g) (ages_
 abbrev pub ring_form : Form
 ring_form = record { shapes = ring_shapes_of; places = ring_places; long = λ words. false; tap_levels = ring_operators; property = λ words reads puts. ⊤ }
 
--- The word of an array at a place.
+-- The slot is this place.
 pub record IsSlotOf (p : Place) (s : Slot) : Type 0 where
   -- the array by its number
   pub array : s.array ≡ p.array
   -- the word by its number
   pub word : s.word ≡ p.word
 
--- The number of an image's first array.
+-- n is the number of the first array of image g, and at most `MAX_BUFFER_BITS`.
 pub record IsFirstArray (shapes : Shapes) (plan : Plan) (g n : ℕ) : Type 0 where
   -- as many arrays as the kept images before it have
   pub first : n ≡ first_array shapes plan g
-  -- no more than bits may be buffered
+  -- at most as many as bits may be buffered
   pub few : n ≤ MAX_BUFFER_BITS
 
 -- A kept image with its net, whose buffer a form can add: those of the kept images before it are there.

@@ -47,7 +47,7 @@ pub record IsBuiltBy (p : Program) (plan : Plan) (form : Form) (enable : Bool) (
   pub named : r.module.names ≡ names_for r.module.netlist
   -- it is a whole module
   pub whole : IsWhole r.module.netlist r.module.netlist
-  -- it runs on from any contents that fit
+  -- no run that begins with a reset clock stops
   pub runs : RunsOn r.module.netlist
   -- it is the circuit of the program
   pub circuit : IsModuleOf r.module.netlist p plan form r.nets.items

@@ -9,7 +9,7 @@ use buffer_plan::Plan;
 use dk_base::OutOfMemory;
 use std::alloc::Global;
 
-/// Up to this number of words a segment that is not long becomes registers in a row, and long segments that differ by at most as many words get arrays of one length.
+/// Up to this number of words a segment that is not long becomes registers in a row, and if the long segments of a plan differ by at most as many words, their arrays have one length.
 pub const MAX_REGISTERS: u64 = 8;
 
 // Adds the words of each segment that has more than `least`.

@@ -20,7 +20,7 @@ abbrev pub form_with : (block : Option ℕ) → (splits : List (List ℕ)) → F
 form_with None splits = chain_form
 form_with (Some least) splits = block_form least splits
 
--- The module of a program under a plan, with a chain of segments for each buffered image. With a number, each array of at least this number of words is read one clock ahead, into a register that copies its word, and the segments may be divided further.
+-- The module of a program under a plan, with a chain of segments for each buffered image. With a number, each array of at least this number of words is read one clock ahead, into a register that copies its word, and the segments are divided (`divided`).
 pub record IsCircuitOf (p : Program) (plan : Plan) (enable : Bool) (block : Option ℕ) (m : Netlist) (nets reads : List Net) : Type 0 where
   pub ports : HasPorts m p enable
   pub whole : IsWhole m m
@@ -34,7 +34,7 @@ pub record IsCircuitOf (p : Program) (plan : Plan) (enable : Bool) (block : Opti
   pub none : block ≡ None → copies ≡ []
   -- the ages that are proposed for the chain of each kept image, with a number
   pub splits : List (List ℕ)
-  -- they divide each segment of a chain into its arrays: one block memory for each segment of more than `block` words, and single words
+  -- they divide each segment of a chain by a rule: one of more than `block` words becomes a block memory and single words, another of at most `MAX_REGISTERS` words single words, and any other one array
   pub divided : (least : ℕ) → block ≡ Some least → AreChainsDivided least plan splits
   -- and what it does over any clocks, with resets and held clocks at any place
   pub behaves : Behaves m p plan (form_with block splits).places copies nets

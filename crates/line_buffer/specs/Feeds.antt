@@ -9,9 +9,9 @@ use Rattle.line_buffer.specs.declared.chains.Tap.{Tap}
 
 -- a net can go into an array of this many words of this many bits
 pub record CanFeed (b : Netlist) (width words : ℕ) (from : Net) : Type 0 where
-  -- a word has as many bits as a net can have
+  -- a word has 1 to 64 bits
   pub bits : IsWidth width
-  -- the array has as many words as an array can have
+  -- an array may have this many words
   pub deep : IsDepth words
   -- the net is there
   pub there : IsNet b from
@@ -20,7 +20,7 @@ pub record CanFeed (b : Netlist) (width words : ℕ) (from : Net) : Type 0 where
 
 -- a chain can go on from a tap to the tap of this age
 pub record CanGoOn (b : Netlist) (width : ℕ) (from : Tap) (age : ℕ) : Type 0 where
-  -- a word has as many bits as a net can have
+  -- a word has 1 to 64 bits
   pub bits : IsWidth width
   -- ages ascend
   pub up : from.age ≤ age
@@ -37,7 +37,7 @@ pub record CanGoBack (b : Netlist) (index : Net) (bits words age : ℕ) : Type 0
   pub there : IsNet b index
   -- it has this many bits
   pub width : net_width b index ≡ bits
-  -- they are as many as a net can have
+  -- it is 1 to 64
   pub wide : IsWidth bits
   -- they hold the last index
   pub fits : words - 1 < 2 ^ bits

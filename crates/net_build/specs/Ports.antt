@@ -29,5 +29,5 @@ pub record IsDinNet (b : Netlist) (k : ℕ) (n : Net) : Type 0 where
   pub din : n ≡ din_net b k
   -- it can go into right sides
   pub net : IsNet b n
-  -- it is as wide as a port can be
+  -- its width is one that a port may have
   pub width : IsPortWidth (net_width b n)

@@ -30,7 +30,7 @@ pub record AddsArray (new old : Netlist) (s : Shape) (x : ℕ) : Type 0 where
   pub made : new ≡ with_array old s
   -- no access is outside its array, if none was
   pub stops : NeverStops old → NeverStops new
-  -- registers take what they took
+  -- registers that take only control nets still do
   pub control : KeepsControl new old
 
 -- register n can take the net v
@@ -52,7 +52,7 @@ pub record Sets (new old : Netlist) (n v : Net) : Type 0 where
   pub edge : AtEachEdge new (λ s next. slice_get next.regs (number n) ≡ Some (net_value s v))
   -- no access is outside its array, if none was
   pub stops : NeverStops old → NeverStops new
-  -- the register is a copy, or takes what is made of rst, en and registers that are none
+  -- registers stay controlled, if this one is a copy or the net is made of rst, en and registers that are no copies
   pub control : (copies : List ℕ) → IsControlled old copies → Contains copies (number n) ⊎ IsControlBut new copies (OfNet v) → IsControlled new copies
 
 -- a word of array x, at the index i, can take the net v
@@ -78,5 +78,5 @@ pub record Puts (new old : Netlist) (x : ℕ) (i v : Net) : Type 0 where
   pub edge : AtEachEdge new (λ s next. slice_get next.arrays x ≡ Some (slice_set (slice_index_or s.contents.arrays x []) (net_value s i) (net_value s v)))
   -- no access is outside its array, if none was and the index is inside
   pub stops : NeverStops old → StaysInside new (x, atom.Net i) → NeverStops new
-  -- registers take what they took
+  -- registers that take only control nets still do
   pub control : KeepsControl new old

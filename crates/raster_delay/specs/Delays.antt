@@ -89,7 +89,7 @@ pub record AreImageCounts (inputs images : ℕ) : Type 0 where
   -- places are of 32 bits
   pub limit : images < 2 ^ 32
 
--- a read in a frame of so many columns, between two of the first n images
+-- a read in a frame of `row` columns, between two of the first n images
 pub record IsReadAmong (row n : ℕ) (r : PlacedRead) : Type 0 where
   -- the columns are within the limit
   pub row_limit : row ≤ MAX_SIDE
