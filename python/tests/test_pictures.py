@@ -113,7 +113,7 @@ def plain(content: bytes) -> list[tuple[int, list[list[int]]]]:
     """A reader without checks, byte by byte."""
     images, at = [], 0
     while at < len(content):
-        numbers = []
+        numbers: list[int] = []
         at += 2
         while len(numbers) < 3:
             if content[at:at + 1] == b"#":
