@@ -145,9 +145,13 @@ class Failure(Exception):
     means = "dk failed"
 
     def __init__(self, status: int, answer: str, text: str = "") -> None:
-        super().__init__(text or f"{self.means}: {answer}")
+        # (`args` stays as the arguments of the class that was called, so that each failure can be pickled)
         self.status = status
         self.answer = answer
+        self.text = text or f"{self.means}: {answer}"
+
+    def __str__(self) -> str:
+        return self.text
 
 
 class NotFound(Failure):
@@ -345,9 +349,9 @@ def _fault(program: Program, line: str) -> Failure:
     found = _SPAN.fullmatch(line) or _WHOLE.fullmatch(line)
     if not found:
         return Ended(3, line)
-    told = messages(program)
-    if told and told[0].kind == found[1]:
-        return Fault(line, told)
+    explained = messages(program)
+    if explained and explained[0].kind == found[1]:
+        return Fault(line, explained)
     return Fault(line, [Message(found[1], line, None, None, None, ())])
 
 

@@ -23,7 +23,6 @@ Pictures = Union[Array, Mapping[str, Array]]
 
 MOST_IMAGES = 65_536
 MOST_HEADER = 65_536
-MOST_SIDE = 4_096
 _MOST_NUMBER = 4_294_967_295
 
 # A header, part by part. A gap begins with white space. A comment that does not end is a gap up to the end of the text.
@@ -53,11 +52,15 @@ _SUFFIXES = {".png": "PNG", ".jpg": "JPEG", ".jpeg": "JPEG", ".tif": "TIFF", ".t
 class PgmError(ValueError):
     """A file that is refused by docs/PGM.md. `line` is the line of the page, such as `image: Magic 14`."""
 
-    def __init__(self, kind: str, *numbers: int, note: str = "") -> None:
+    def __init__(self, kind: str, numbers: Sequence[int], note: str = "") -> None:
+        super().__init__(kind, numbers, note)
         self.line = " ".join(["image:", kind, *map(str, numbers)])
-        super().__init__(f"{self.line}: {_REASONS[kind].format(*numbers)}{note}")
         self.kind = kind
-        self.numbers = numbers
+        self.numbers = tuple(numbers)
+        self.note = note
+
+    def __str__(self) -> str:
+        return f"{self.line}: {_REASONS[self.kind].format(*self.numbers)}{self.note}"
 
 
 class PictureError(ValueError):
@@ -77,27 +80,27 @@ class Image:
 def decode(content: bytes, size: tuple[int, int] | None = None, bits: Sequence[int] | None = None) -> list[Image]:
     """The images of a PGM file.
 
-    `size` is the (height, width) that all images must have. Without it the first image has any size of 1 to 4096, as for
-    `dk sim`. `bits` has the bits of each input of a round; without it a round is one image of 16 bits. Raises `PgmError`
-    with the first refusal in the order of docs/PGM.md.
+    `size` is the (height, width) that all images must have. Without it the first image has any size but 0. `bits` has the
+    bits of each input of a round; without it a round is one image of 16 bits. Raises `PgmError` with the first refusal in
+    the order of docs/PGM.md.
     """
     images: list[Image] = []
     at = samples = 0
     inputs = list(bits) if bits is not None else [16]
     while not images or at < len(content):
         if len(images) == MOST_IMAGES:
-            raise PgmError("Count", MOST_IMAGES)
+            raise PgmError("Count", [MOST_IMAGES])
         height, width, maxval, at = _header(content, at)
-        if (height, width) != size if size else not (1 <= height <= MOST_SIDE and 1 <= width <= MOST_SIDE):
-            raise PgmError("Size", width, height)
+        if (height, width) != (size or (height, width)) or 0 in (height, width):
+            raise PgmError("Size", [width, height])
         if maxval >= 1 << inputs[len(images) % len(inputs)]:
-            raise PgmError("Maxval", maxval)
+            raise PgmError("Maxval", [maxval])
         size = height, width
         images.append(Image(maxval, _raster(content, at, size, maxval, samples)))
         at += height * width * (1 if maxval < 256 else 2)
         samples += height * width
     if len(images) % len(inputs):
-        raise PgmError("Round", len(images) % len(inputs), len(inputs))
+        raise PgmError("Round", [len(images) % len(inputs), len(inputs)])
     return images
 
 
@@ -105,7 +108,7 @@ def _header(content: bytes, start: int) -> tuple[int, int, int, int]:
     """Height, width and maxval of the header at byte `start`, and where its raster begins."""
     if content[start:start + 2] != b"P5":
         found = format_of(content[:16]) if start == 0 else None
-        raise PgmError("Magic", start, note=f": this is a {found}" if found else "")
+        raise PgmError("Magic", [start], f": this is a {found}" if found else "")
     window = content[start:start + MOST_HEADER]
     at = 2
     digits: list[tuple[int, bytes]] = []
@@ -113,14 +116,14 @@ def _header(content: bytes, start: int) -> tuple[int, int, int, int]:
         match = part.match(window, at)
         if match is None:
             if at == MOST_HEADER:
-                raise PgmError("LongHeader", MOST_HEADER)
-            raise PgmError("Number", start + at)
+                raise PgmError("LongHeader", [MOST_HEADER])
+            raise PgmError("Number", [start + at])
         if part is _DIGITS:
             digits.append((at, match[0]))
         at = match.end()
     width, height, maxval = (_value(text) for _, text in digits)
     if not 1 <= maxval <= 65535:
-        raise PgmError("Range", start + digits[2][0])
+        raise PgmError("Range", [start + digits[2][0]])
     return height, width, maxval, start + at
 
 
@@ -137,9 +140,9 @@ def _raster(content: bytes, at: int, size: tuple[int, int], maxval: int, before:
     have = min(len(content) - at, need)
     samples = np.frombuffer(content, kind, have // kind.itemsize, at)
     if maxval not in (255, 65535) and samples.size and int(samples.max()) > maxval:
-        raise PgmError("SampleTooGreat", before + int(np.argmax(samples > maxval)))
+        raise PgmError("SampleTooGreat", [before + int(np.argmax(samples > maxval))])
     if have < need:
-        raise PgmError("Short", have, need)
+        raise PgmError("Short", [have, need])
     return samples.astype(np.uint8 if maxval < 256 else np.uint16).reshape(size)
 
 

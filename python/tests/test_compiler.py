@@ -2,6 +2,7 @@
 from __future__ import annotations
 
 import os
+import pickle
 import signal
 import subprocess
 import sys
@@ -17,7 +18,7 @@ import pytest
 from darkroom import compiler, pictures
 from darkroom.compiler import Fault, NotFound, Rejected, Text, TextPort, TextSource, TextType, Unable
 from darkroom.pictures import Array
-from darkroom.report import parse
+from darkroom.report import FormError, parse
 
 TOP = Path(__file__).resolve().parents[2]
 PROGRAMS = TOP / "examples" / "programs"
@@ -405,3 +406,24 @@ def test_a_call_that_ends_before_it_reads_raises_its_fault() -> None:
     program = Stand("size 1024 1024\ninput a : u8\noutput f\n", 1024, 1024)
     with pytest.raises(Fault, match="UnknownImage"):
         compiler.run(program, np.zeros((10, 1024, 1024), np.uint8))
+
+
+def test_failures_can_be_pickled() -> None:
+    """A pool of processes hands each exception on."""
+    fault = compiler._fault(UNKNOWN, "program 38-39: UnknownImage")
+    for error in (fault, Rejected(10, "report: line 4"), NotFound(127, "none"), FormError(3, "no"), pictures.PgmError("Short", [1, 2], ": x")):
+        again = pickle.loads(pickle.dumps(error))
+        assert type(again) is type(error) and str(again) == str(error) and vars(again) == vars(error)
+
+
+@pytest.mark.parametrize("path", sorted([*PROGRAMS.glob("*.dk"), *(TOP / "examples" / "pipelines").glob("*.dk")]), ids=lambda path: str(path.stem))
+def test_each_example_is_read_strictly(path: Path) -> None:
+    """The report is the one that `dk plan` writes, byte for byte, and `nets` agrees with it."""
+    raw = subprocess.run([compiler.find(), "plan", "--age", "1", path], capture_output=True, text=True, check=True).stdout
+    program = compiler.load(path)
+    report, nets = compiler.plan(program, age=1), compiler.nets(program, age=1)
+    assert report.text() == raw and len(nets.reads) == report.reads
+    assert [(image.name, image.width, image.delay) for image in nets.images] == [(image.name, image.width, image.delay) for image in report.images.values()]
+    assert [report.images[output.name].delay for output in nets.outputs] == list(report.latencies)
+    inputs = [line.split()[1] for line in path.read_text().splitlines() if line.startswith("input ")]
+    assert [port.name for port in program.inputs] == inputs

@@ -348,3 +348,12 @@ def test_wrong_phases() -> None:
             pictures.split(array, phases)
     with pytest.raises(ValueError, match="one shape"):
         pictures.join([eight([1]), eight([1, 2])])
+
+
+def test_a_size_above_the_frame_of_a_program_is_read(tmp_path: Path) -> None:
+    (tmp_path / "p.pgm").write_bytes(b"P5 5000 1 255\n" + b"\1" * 5000)
+    assert pictures.read(tmp_path / "p.pgm").shape == (1, 5000)
+    with pytest.raises(PgmError, match="^image: Short 1 18446744065119617025: "):
+        pictures.decode(b"P5 4294967295 4294967295 1\n\1")
+    with pytest.raises(PgmError, match="^image: Size 0 1: "):
+        pictures.decode(b"P5 0 1 255\n")
