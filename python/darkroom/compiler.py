@@ -1,7 +1,7 @@
 """Calls of the program `dk` (docs/COMMANDS.md).
 
-A program's text is given to `dk` as a file in memory, and pictures go through pipes. No call leaves a process or a file,
-also if it is interrupted.
+A program's text is given to `dk` as a file in memory, and pictures go through pipes. No call leaves a process or a
+file, even if it is interrupted.
 """
 from __future__ import annotations
 
@@ -17,7 +17,7 @@ from pathlib import Path
 from typing import Callable, Iterator, Mapping, Protocol, Sequence, SupportsIndex
 
 from .files import AnyPath, save
-from .pictures import Array, Pictures, decode_rounds, encode_rounds, gather
+from .pictures import Array, PgmError, Pictures, decode_rounds, encode_rounds, gather
 from .report import Nets, Report, parse, parse_nets
 
 # What a program is
@@ -112,7 +112,11 @@ class Text:
 
 @dataclass(frozen=True)
 class Cut(Text):
-    """What `cut` wrote. `levels` is the most levels of a body; `over` has the bodies with more than was asked for, and why."""
+    """What `cut` wrote.
+
+    `levels` is the most levels of a body. `over` has the names of the bodies with more levels than requested, each with
+    the reason of docs/CUT.md.
+    """
 
     definitions: int = 0
     levels: int = 0
@@ -129,7 +133,7 @@ class Narrowed(Text):
 
 @dataclass(frozen=True)
 class Widened(Text):
-    """What `widen` wrote: its definitions, its buffer bits at age 0, those `before`, and how many pixels a clock it takes."""
+    """What `widen` wrote: its definitions, its buffer bits at age 0, those `before`, and its pixels per clock."""
 
     definitions: int = 0
     bits: int = 0
@@ -202,7 +206,8 @@ class Ended(Failure):
 
 
 _FAILURES: Mapping[int, Callable[[int, str], Failure]] = {
-    1: NotFound, 2: UsageError, 4: ImageError, 7: ReadError, 8: WriteError, 9: OutOfMemory, 10: Rejected, 11: Unable, 126: NotFound, 127: NotFound,
+    1: NotFound, 2: UsageError, 4: ImageError, 7: ReadError, 8: WriteError, 9: OutOfMemory, 10: Rejected, 11: Unable,
+    126: NotFound, 127: NotFound,
 }
 
 
@@ -255,9 +260,9 @@ class _Done:
 
 
 def find() -> Path:
-    """The program `dk`: that of the environment variable DK, else that of the checkout around this package, else that of PATH.
+    """The path of `dk`: the environment variable DK, else the checkout around this package, else the search path.
 
-    Raises `NotFound` if there is none.
+    In a checkout it is ./dk, or bin/dk if there is no ./dk. Raises `NotFound` if there is none.
     """
     named = os.environ.get("DK")
     if named:
@@ -271,7 +276,8 @@ def find() -> Path:
             return beside
     found = shutil.which("dk")
     if found is None:
-        raise NotFound(127, "there is no program dk: install it by tools/install.sh, or set the environment variable DK to it")
+        raise NotFound(127, "there is no program dk: install it by tools/install.sh, "
+                            "or set the environment variable DK to it")
     return Path(found).absolute()
 
 
@@ -280,8 +286,9 @@ def _call(words: Sequence[str], files: Sequence[int] = (), images: bytes | None 
     program = str(find())
     try:
         process = subprocess.Popen(
-            [program, *words], stdin=subprocess.DEVNULL if images is None else subprocess.PIPE, stdout=subprocess.PIPE, stderr=subprocess.PIPE,
-            pass_fds=files, start_new_session=True, env={**os.environ, "DK_EXPLAIN": "never"})
+            [program, *words], stdin=subprocess.DEVNULL if images is None else subprocess.PIPE,
+            stdout=subprocess.PIPE, stderr=subprocess.PIPE, pass_fds=files, start_new_session=True,
+            env={**os.environ, "DK_EXPLAIN": "never"})
     except OSError as error:
         raise NotFound(127, f"{program!r}: {error.strerror}") from None
     try:
@@ -330,7 +337,8 @@ def _bytes(program: Program) -> bytes:
 def _need(program: Program, command: str, *words: str, more: Sequence[int] = (), images: bytes | None = None) -> bytes:
     """Standard output of a call on a program. The word `PROG` stands for its text."""
     with _in_memory(_bytes(program)) as file:
-        done = _call([command, *(f"/dev/fd/{file}" if word == "PROG" else word for word in words)], [file, *more], images)
+        named = [f"/dev/fd/{file}" if word == "PROG" else word for word in words]
+        done = _call([command, *named], [file, *more], images)
     if done.status == 3:
         raise _fault(program, done.line)
     if done.status:
@@ -421,11 +429,17 @@ def run(program: Program, pictures: Pictures, age: int = 0) -> Array | dict[str,
 def _show(program: Program, pictures: Pictures, *words: str) -> Array | dict[str, Array]:
     size = (program.height, program.width)
     inputs = [(port.name, port.type.bits) for port in program.inputs]
+    if not inputs or max(bits for _, bits in inputs) > 16:
+        # (no picture fits such a program, which is a fault)
+        plan(program)
     arrays, is_single = gather(inputs, size, pictures)
     images = encode_rounds(arrays, [bits for _, bits in inputs])
     content = _need(program, *words, "PROG", "/dev/stdin", "/dev/stdout", images=images)
     names = [port.name for port in program.outputs]
-    shown = decode_rounds(content, size, len(names))
+    try:
+        shown = decode_rounds(content, size, len(names))
+    except PgmError as error:
+        raise Ended(0, f"pictures of another form: {error}") from None
     by_name = {name: array[0] if is_single else array for name, array in zip(names, shown)}
     return by_name[names[0]] if len(names) == 1 else by_name
 
@@ -457,7 +471,8 @@ def nets(program: Program, enable: bool = False, age: int = 0, block: int | None
     return parse_nets(_need(program, "nets", *_options(enable, age, block), "PROG").decode("ascii"))
 
 
-def compile(program: Program, path: AnyPath | None = None, enable: bool = False, age: int = 0, block: int | None = None) -> str:
+def compile(program: Program, path: AnyPath | None = None, enable: bool = False, age: int = 0,
+            block: int | None = None) -> str:
     """The Verilog text of the program, which is also written to `path` if that is given.
 
     `enable` adds a clock enable, `age` is 0 to 64 clocks, `block` fits arrays of this many words or more to block memory.
@@ -512,17 +527,18 @@ def cut(program: Program, levels: int) -> Cut:
     text, answer = _rewrite(program, "cut", _number("levels", levels, 1, 64))
     first, _, second = answer.partition(b"\n")
     definitions, most = _figures("cut: definitions ([0-9]+) levels ([0-9]+)", first)
-    words = second.decode("ascii").removeprefix(f"cut: over {levels}: ").split()
-    return Cut(text, program.width, program.height, _ports(program.inputs), _ports(program.outputs), files=_files(program),
-               definitions=definitions, levels=most, over=tuple(zip(words[::2], words[1::2])))
+    _figures(rf"(?:cut: over {levels}:(?: \w+ (?:operator|limit|name|moved))+)?", second)
+    words = second.decode("ascii").split()[3:]
+    return Cut(text, program.width, program.height, _ports(program.inputs), _ports(program.outputs),
+               files=_files(program), definitions=definitions, levels=most, over=tuple(zip(words[::2], words[1::2])))
 
 
 def narrow(program: Program) -> Narrowed:
     """The program with images of fewer bits, where an analysis of their values allows it."""
     text, answer = _rewrite(program, "narrow")
     bits, before = _figures("narrow: bits ([0-9]+) from ([0-9]+)", answer)
-    return Narrowed(text, program.width, program.height, _ports(program.inputs), _ports(program.outputs), files=_files(program),
-                    bits=bits, before=before)
+    return Narrowed(text, program.width, program.height, _ports(program.inputs), _ports(program.outputs),
+                    files=_files(program), bits=bits, before=before)
 
 
 def widen(program: Program, phases: int) -> Widened:
@@ -548,7 +564,11 @@ def parse_text(content: str, sources: Mapping[int, Source] | None = None, files:
 
 
 def load(path: AnyPath) -> Text:
-    """The program of a file. A fault shows the line of the file. Raises OSError if it cannot be read, `Fault` if it is wrong."""
+    """The program of a file. A fault shows the line of the file.
+
+    Raises OSError if the file cannot be read, and `Fault` if the program is not accepted.
+    """
     file = os.fspath(path)
     content = Path(path).read_bytes().decode("utf-8", "surrogateescape")
-    return parse_text(content, {at: TextSource(file, at) for at in range(1, content.count("\n") + 2)}, frozenset({file}))
+    sources = {at: TextSource(file, at) for at in range(1, content.count("\n") + 2)}
+    return parse_text(content, sources, frozenset({file}))

@@ -152,7 +152,8 @@ def encode(images: Iterable[Image]) -> bytes:
     for image in images:
         check_array("image", image.samples)
         if image.samples.ndim != 2 or not 1 <= image.maxval <= 65535:
-            raise ValueError(f"an image has shape (height, width) and maxval 1 to 65535, not {image.samples.shape} and {image.maxval}")
+            raise ValueError("an image has the shape (height, width) and a maxval of 1 to 65535, "
+                             f"not {image.samples.shape} and {image.maxval}")
         check_range("image", image.samples, image.maxval)
         height, width = image.samples.shape
         parts.append(b"P5\n%d %d\n%d\n" % (width, height, image.maxval))
@@ -167,7 +168,8 @@ def check_array(name: str, array: object) -> None:
     if not isinstance(array, np.ndarray):
         raise TypeError(f"{name}: a picture is a NumPy array, not {type(array).__name__}")
     if array.dtype.kind != "u":
-        raise TypeError(f"{name}: a picture has an unsigned type, not {array.dtype}; convert it with .astype(np.uint8) or .astype(np.uint16)")
+        raise TypeError(f"{name}: a picture has an unsigned type, not {array.dtype}; "
+                        "convert it with .astype(np.uint8) or .astype(np.uint16)")
 
 
 def check_range(name: str, array: Array, most: int) -> None:
@@ -360,8 +362,11 @@ def _save_picture(path: AnyPath, picture: Pillow.Image, kind: str) -> None:
 # Phases
 
 def split(array: Array, phases: int) -> list[Array]:
-    """The phases of pictures of shape (.., width), each of shape (.., width / phases): phase p has column p of each `phases`
-    columns (docs/WIDEN.md). Raises ValueError if `phases`, from 2 to 8, does not divide the width."""
+    """The phases of pictures of shape (.., height, width), each of shape (.., height, width / phases).
+
+    Phase p has column p of each `phases` columns (docs/WIDEN.md). `phases` is 2 to 8. Raises ValueError if it does not
+    divide the width.
+    """
     _check_phases(phases)
     if array.ndim < 2 or array.shape[-1] % phases:
         raise ValueError(f"{phases} phases do not divide the width of the shape {array.shape}")

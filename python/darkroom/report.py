@@ -319,7 +319,8 @@ def parse_nets(text: str) -> Nets:
         images.append(NetImage(lines.name(name), lines.net(net), lines.number(width, 1, 64), lines.number(delay)))
     while lines.begins("read"):
         reader, name, dx, dy, net, age = lines.take("read", 6)
-        reads.append(NetRead(lines.name(reader), lines.name(name), lines.offset(dx), lines.offset(dy), lines.net(net), lines.number(age)))
+        reads.append(NetRead(lines.name(reader), lines.name(name), lines.offset(dx), lines.offset(dy),
+                             lines.net(net), lines.number(age)))
     while not outputs or lines.begins("output"):
         name, valid, dout = lines.take("output", 3)
         outputs.append(NetOutput(lines.name(name), lines.net(valid), lines.net(dout)))

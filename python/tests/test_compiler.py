@@ -427,3 +427,30 @@ def test_each_example_is_read_strictly(path: Path) -> None:
     assert [report.images[output.name].delay for output in nets.outputs] == list(report.latencies)
     inputs = [line.split()[1] for line in path.read_text().splitlines() if line.startswith("input ")]
     assert [port.name for port in program.inputs] == inputs
+
+
+def test_a_program_that_no_picture_fits_is_a_fault() -> None:
+    for text, inputs, kind in [("size 1 1\noutput f\n", (), "Syntax"), ("size 1 1\ninput a : u17\noutput a\n", (TextPort("a", TextType(17)),), "InputType")]:
+        with pytest.raises(Fault) as found:
+            compiler.run(Stand(text, 1, 1, inputs, ()), eight([1]))
+        assert found.value.kind == kind
+
+
+def test_an_answer_of_another_form(tmp_path: Path, monkeypatch: pytest.MonkeyPatch) -> None:
+    monkeypatch.setenv("DK", script(tmp_path, "cat >/dev/null; echo P5"))
+    with pytest.raises(compiler.Ended, match="pictures of another form: image: Number 3: "):
+        compiler.run(COPY, eight([1, 2, 3]))
+    with pytest.raises(compiler.Ended, match="an answer of another form: 'P5'"):
+        compiler.cut(COPY, 1)
+    with pytest.raises(FormError, match="line 1: not a line `size`"):
+        compiler.plan(COPY)
+
+
+def test_two_lines_of_cut(tmp_path: Path, monkeypatch: pytest.MonkeyPatch) -> None:
+    answer = "echo 'cut: definitions 4 levels 3'; echo 'cut: over 1: f operator g limit'"
+    monkeypatch.setenv("DK", script(tmp_path, answer))
+    assert compiler.cut(COPY, 1).over == (("f", "operator"), ("g", "limit"))
+    for wrong in (answer.replace("limit", "limits"), answer.replace("over 1", "over 2"), answer.replace(" g limit", " g")):
+        monkeypatch.setenv("DK", script(tmp_path, wrong))
+        with pytest.raises(compiler.Ended, match="an answer of another form"):
+            compiler.cut(COPY, 1)
