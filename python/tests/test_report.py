@@ -190,3 +190,38 @@ def test_nets_refused(text: str, line: int) -> None:
     with pytest.raises(FormError) as found:
         parse_nets(text)
     assert found.value.line == line
+
+
+def of_images(version: int, count: int) -> str:
+    """A report of this many images, by its form only."""
+    lines = [f"image i{at} 1 0 0" for at in range(count)]
+    return "\n".join([f"plan {version}", "limits 0 0", "age 0", "size 1 1", *lines, "latency 0", "clocks 1", "bits 0", "reads 0", "end", ""])
+
+
+@pytest.mark.parametrize("version, most", [(2, 257), (3, 264)])
+def test_the_most_images(version: int, most: int) -> None:
+    assert len(parse(of_images(version, most)).images) == most
+    with pytest.raises(FormError) as found:
+        parse(of_images(version, most + 1))
+    assert found.value.line == 4 + most + 1
+
+
+def test_the_most_latencies() -> None:
+    text = of_images(3, 1)
+    assert parse(text.replace("latency 0\n", "latency 0\n" * 8)).latencies == (0,) * 8
+    with pytest.raises(FormError) as found:
+        parse(text.replace("latency 0\n", "latency 0\n" * 9))
+    assert found.value.line == 14
+
+
+def test_the_greatest_number() -> None:
+    assert parse(MEAN.replace("bits 16", f"bits {2**64 - 1}")).bits == 18446744073709551615
+
+
+def test_flows_of_one_image_are_in_the_order_of_dy_and_then_dx() -> None:
+    start = "size 4 3\nimage a 8 0 0\nlatency 0\nclocks 12\nbits 0\n"
+    up, down = "flow read a a 1 -1 1\n", "flow read a a 0 0 1\n"
+    assert [(flow.dx, flow.dy) for flow in parse(start + up + down).flows if isinstance(flow, ReadFlow)] == [(1, -1), (0, 0)]
+    with pytest.raises(FormError) as found:
+        parse(start + down + up)
+    assert found.value.line == 7
