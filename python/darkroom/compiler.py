@@ -335,7 +335,7 @@ def _bytes(program: Program) -> bytes:
 
 
 def _need(program: Program, command: str, *words: str, more: Sequence[int] = (), images: bytes | None = None) -> bytes:
-    """Standard output of a call on a program. The word `PROG` stands for its text."""
+    """Standard output of a call on a program. The word `PROG` is replaced by the name of its text."""
     with _in_memory(_bytes(program)) as file:
         named = [f"/dev/fd/{file}" if word == "PROG" else word for word in words]
         done = _call([command, *named], [file, *more], images)
@@ -542,7 +542,7 @@ def narrow(program: Program) -> Narrowed:
 
 
 def widen(program: Program, phases: int) -> Widened:
-    """The program that takes and shows `phases` pixels a clock, 2 to 8 (docs/WIDEN.md).
+    """The program that reads and shows `phases` pixels per clock, 2 to 8 (docs/WIDEN.md).
 
     Each input and output becomes as many: `pictures.split` and `pictures.join` make and join their pictures. Raises
     `Unable` if `phases` does not divide the width, or a limit is exceeded.

@@ -242,8 +242,8 @@ def read(path: AnyPath) -> Array:
     """The grey picture of a PNG, JPEG, TIFF or PGM file, of shape (height, width) and of type uint8 or uint16.
 
     The format is that of the content. Samples are not scaled: those of a PNG or TIFF of one bit are 0 and 1. A photo is
-    turned as the camera was held. A PGM file of several images gives (images, height, width). Raises OSError if the file
-    cannot be read, and `PictureError` for other formats, colour and transparency.
+    turned as the camera was held. The shape is (images, height, width) for a PGM file of several images. Raises OSError
+    if the file cannot be read, and `PictureError` for other formats, colour and transparency.
     """
     content = _content(path)
     if content.startswith(b"P5"):
@@ -339,7 +339,7 @@ def _grey(path: AnyPath, picture: Pillow.Image) -> Array:
         _refuse(path, f"a picture with transparency (mode {picture.mode}); remove it first")
     if picture.mode.startswith("F"):
         _refuse(path, "its samples are not whole numbers")
-    _refuse(path, f"a picture in colour (mode {picture.mode}); read_colour gives its red, green and blue")
+    _refuse(path, f"a picture in colour (mode {picture.mode}); read_colour returns its red, green and blue")
 
 
 def _kind(path: AnyPath, bits: int | None) -> str:

@@ -8,6 +8,7 @@ import subprocess
 import sys
 import threading
 import time
+from concurrent.futures import ThreadPoolExecutor
 from dataclasses import dataclass, field
 from pathlib import Path
 from typing import Any, Mapping
@@ -454,3 +455,16 @@ def test_two_lines_of_cut(tmp_path: Path, monkeypatch: pytest.MonkeyPatch) -> No
         monkeypatch.setenv("DK", script(tmp_path, wrong))
         with pytest.raises(compiler.Ended, match="an answer of another form"):
             compiler.cut(COPY, 1)
+
+
+def test_a_text_that_is_too_long() -> None:
+    with pytest.raises(Fault) as found:
+        compiler.parse_text(" " * 1048577)
+    assert (found.value.answer, found.value.kind, found.value.line) == ("program: TooLong 1048576", "TooLong", None)
+
+
+def test_calls_of_several_threads() -> None:
+    """No call inherits the descriptors of another: each ends when its own input ends."""
+    with ThreadPoolExecutor(8) as pool:
+        answers = list(pool.map(lambda sample: shown(compiler.run(COPY, eight([sample, 0, sample]))), range(40)))
+    assert answers == [[[sample, 0, sample]] for sample in range(40)]
