@@ -1,7 +1,7 @@
 """Pictures: arrays of samples, files of PGM as docs/PGM.md defines them, files of other formats, and phases.
 
 A picture is an array of shape (height, width) of an unsigned type; several rounds of it are (rounds, height, width).
-A sample is a whole number. It is never scaled.
+A sample is a whole number. It is not scaled.
 """
 from __future__ import annotations
 
@@ -241,9 +241,10 @@ def format_of(content: bytes) -> str | None:
 def read(path: AnyPath) -> Array:
     """The grey picture of a PNG, JPEG, TIFF or PGM file, of shape (height, width) and of type uint8 or uint16.
 
-    The format is that of the content. Samples are not scaled: those of a PNG or TIFF of one bit are 0 and 1. A photo is
-    turned as the camera was held. The shape is (images, height, width) for a PGM file of several images. Raises OSError
-    if the file cannot be read, and `PictureError` for other formats, colour and transparency.
+    The format is that of the content. Samples stay as they are, those of 1 bit as 0 and 1. Only those of a PNG of 2 or 4
+    bits are scaled to 8 bits, by Pillow. A photo is turned as the camera was held. The shape is (images, height, width)
+    for a PGM file of several images. Raises OSError if the file cannot be read, and `PictureError` for other formats,
+    colour and transparency.
     """
     content = _content(path)
     if content.startswith(b"P5"):

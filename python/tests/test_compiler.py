@@ -465,6 +465,10 @@ def test_a_text_that_is_too_long() -> None:
 
 def test_calls_of_several_threads() -> None:
     """No call inherits the descriptors of another: each ends when its own input ends."""
+    def copied(sample: int) -> object:
+        found: object = shown(compiler.run(COPY, eight([sample, 0, sample])))
+        return found
+
     with ThreadPoolExecutor(8) as pool:
-        answers = list(pool.map(lambda sample: shown(compiler.run(COPY, eight([sample, 0, sample]))), range(40)))
+        answers = list(pool.map(copied, range(40)))
     assert answers == [[[sample, 0, sample]] for sample in range(40)]

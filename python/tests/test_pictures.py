@@ -2,7 +2,9 @@
 from __future__ import annotations
 
 import os
+import struct
 import subprocess
+import zlib
 from pathlib import Path
 from typing import Any
 
@@ -263,6 +265,28 @@ def test_pgm_has_the_maxval_of_its_bits_and_several_images(tmp_path: Path) -> No
 def test_one_bit_is_0_and_1(tmp_path: Path) -> None:
     Pillow.fromarray(np.array([[True, False]])).save(tmp_path / "p.png")
     assert pictures.read(tmp_path / "p.png").tolist() == [[1, 0]]
+
+
+def chunk(kind: bytes, content: bytes) -> bytes:
+    return struct.pack(">I", len(content)) + kind + content + struct.pack(">I", zlib.crc32(kind + content))
+
+
+@pytest.mark.parametrize("bits, raster, samples", [
+    (1, b"\x50", [0, 1, 0, 1]), (2, b"\x1b", [0, 85, 170, 255]), (4, b"\x01\x23", [0, 17, 34, 51]), (16, b"\1\2\xff\xff\0\0\0\7", [258, 65535, 0, 7])])
+def test_a_png_by_hand(bits: int, raster: bytes, samples: list[int], tmp_path: Path) -> None:
+    head = struct.pack(">IIBBBBB", 4, 1, bits, 0, 0, 0, 0)
+    parts = [chunk(b"IHDR", head), chunk(b"IDAT", zlib.compress(b"\0" + raster)), chunk(b"IEND", b"")]
+    (tmp_path / "p.png").write_bytes(b"\x89PNG\r\n\x1a\n" + b"".join(parts))
+    assert pictures.read(tmp_path / "p.png").tolist() == [samples]
+
+
+def test_a_tiff_of_16_bits_by_hand(tmp_path: Path) -> None:
+    """The most significant byte first. Each entry: tag, type (3 is 16 bits, 4 is 32), count, value."""
+    short, long = struct.Struct(">HHIHH"), struct.Struct(">HHII")
+    entries = [long.pack(256, 4, 1, 2), long.pack(257, 4, 1, 1), short.pack(258, 3, 1, 16, 0), short.pack(259, 3, 1, 1, 0),
+               short.pack(262, 3, 1, 1, 0), long.pack(273, 4, 1, 110), long.pack(278, 4, 1, 1), long.pack(279, 4, 1, 4)]
+    (tmp_path / "p.tif").write_bytes(b"MM\0*\0\0\0\x08" + struct.pack(">H", 8) + b"".join(entries) + bytes(4) + b"\1\2\xff\xfe")
+    assert pictures.read(tmp_path / "p.tif").tolist() == [[258, 65534]]
 
 
 def test_a_photo_is_turned(tmp_path: Path) -> None:
