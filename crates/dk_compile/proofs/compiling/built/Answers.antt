@@ -26,4 +26,4 @@ returns-in_ok-made-in-Some-clause-circuit c =
     (block_circuit made.module.netlist c.args.ir.now c.args.plan.now c.args.options.enable c.new-form.result.least c.new-form.result.proposed made.nets.items made.reads.items is.ports is.whole is.runs is.circuit is.reads is.arrays is.property is.computed is.apart is.registers
     (c.frame_drive_law.ensures made.module.netlist c.args.ir.now c.args.plan.now _ _ made.nets.items c.args.options.enable c.law.ensures is.ports is.whole is.runs is.circuit.behaves)
     (subst (λ (form : Splits). AreChainsDivided form.least c.args.plan.now form.proposed) (sym c.new-form.ensures)
-    (c.in_ok-splits-in-Some.ensures.taken (let two = new-form-requires c in omega (arith, two))))))
+    (c.in_ok-splits-in-Some.ensures.taken (let two : 2 ≤ c.in-Some.least = subst (λ (block : Option ℕ). IfSome block (λ least. 2 ≤ least)) c.in-Some.is c.requires.block in omega (arith, two))))))
