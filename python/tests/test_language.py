@@ -169,6 +169,12 @@ def test_brackets(a: Image) -> None:
         "select(a(x,y) > a(x+1,y), 1, min(a(x,y), max(a(x+1,y), 0)))"
 
 
+def test_comparisons_keep_their_order(a: Image) -> None:
+    e = a(x, y)
+    assert body_of(e + 1 < e) == "a(x,y) + 1 < a(x,y)"
+    assert body_of(number(3) < e) == "3 < a(x,y)" and body_of(3 < e) == "a(x,y) > 3"
+
+
 def test_numbers(a: Image) -> None:
     e = a(x, y)
     assert 0 + e is e and 1 * e is e and sum([e]) is e
@@ -357,7 +363,9 @@ def test_errors_of_images_and_programs(a: Image, made: Callable[[Image], object]
     ("s1", "it is a type"),
 ])
 def test_names_that_are_not_names(program: Program, a: Image, name: str, says: str) -> None:
-    for declare in (lambda: program.input(name, u8), lambda: program.let(3, name=name), lambda: program.inline(3, name=name)):
+    declares: list[Callable[[], object]] = [
+        lambda: program.input(name, u8), lambda: program.let(3, name=name), lambda: program.inline(3, name=name)]
+    for declare in declares:
         with pytest.raises(ValueError, match=says):
             declare()
     with pytest.raises(TypeError, match="a name is a text, not int"):
