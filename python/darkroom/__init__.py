@@ -10,15 +10,19 @@
 `min`, `max` and `abs` of the language have the names of Python's own. So `from darkroom import *` leaves them out: write
 darkroom.min, darkroom.max, darkroom.abs.
 """
+from .compiler import Failure, Fault, Text, load
 from .language import Expression, Image, Input, Program, Source, number, sat, select, x, y
 from .language import abs as abs
 from .language import max as max
 from .language import min as min
+from .pictures import read, read_colour, write, write_colour
+from .report import Report
 from .value_types import *
 from .value_types import Type
 
 __all__ = [
-    "Expression", "Image", "Input", "Program", "Source", "Type", "number", "sat", "select", "x", "y",
+    "Expression", "Failure", "Fault", "Image", "Input", "Program", "Report", "Source", "Text", "Type",
+    "load", "number", "read", "read_colour", "sat", "select", "write", "write_colour", "x", "y",
     "u1", "u2", "u3", "u4", "u5", "u6", "u7", "u8", "u9", "u10", "u11", "u12", "u13", "u14", "u15", "u16",
     "u17", "u18", "u19", "u20", "u21", "u22", "u23", "u24", "u25", "u26", "u27", "u28", "u29", "u30", "u31", "u32",
     "u33", "u34", "u35", "u36", "u37", "u38", "u39", "u40", "u41", "u42", "u43", "u44", "u45", "u46", "u47", "u48",

@@ -16,6 +16,7 @@ from dataclasses import dataclass, field, replace
 from pathlib import Path
 from typing import Callable, Iterator, Mapping, Protocol, Sequence, SupportsIndex
 
+from .commands import Commands
 from .files import AnyPath, save
 from .pictures import Array, PgmError, Pictures, decode_rounds, encode_rounds, gather
 from .report import Nets, Report, parse, parse_nets
@@ -92,7 +93,7 @@ class TextSource:
 
 
 @dataclass(frozen=True)
-class Text:
+class Text(Commands):
     """A program that is only a text: a file (`load`), or what `cut`, `narrow` and `widen` wrote.
 
     `files` are the files that it was made from. No call overwrites them.
