@@ -382,3 +382,9 @@ def test_a_text_that_grows_too_long(a: Image) -> None:
     with pytest.raises(ValueError, match="give parts of it names with let"):
         for _ in range(40):
             doubled = (doubled + doubled).as_(u16)
+
+
+def test_each_word_of_the_language_is_refused_as_a_name(program: Program) -> None:
+    for word in "size input let inline im end output as select min max abs sat x y edge clamp".split():
+        with pytest.raises(ValueError, match="it is a word of the language"):
+            program.let(3, name=word)
