@@ -14,7 +14,7 @@ trap 'exit 130' INT TERM HUP
 HYPOTHESIS_STORAGE_DIRECTORY=$work/hypothesis && export HYPOTHESIS_STORAGE_DIRECTORY
 for python in python3 /usr/bin/python3; do
     "$python" -c 'import hypothesis, numpy, PIL, pytest' 2>/dev/null || continue
-    cd "${folder%/tests}/python" || exit 2
+    CDPATH='' cd -- "${folder%/tests}/python" || exit 2
     "$python" -m pytest -q -p no:cacheprovider tests >"$work/out" 2>&1 && exit 0
     cat "$work/out"
     exit 1
