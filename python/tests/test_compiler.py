@@ -360,6 +360,7 @@ def test_an_interrupted_call_leaves_no_process_and_no_file(tmp_path: Path, monke
     def interrupt() -> None:
         while not pids.exists():
             time.sleep(0.02)
+        time.sleep(0.3)  # (until the call waits for its answer)
         os.kill(os.getpid(), signal.SIGINT)
 
     before = set(os.listdir("/proc/self/fd"))
@@ -388,6 +389,7 @@ def test_an_interrupted_python_leaves_no_process(tmp_path: Path) -> None:
     while not children.read_text():
         time.sleep(0.02)
     child = int(children.read_text().split()[0])
+    time.sleep(0.3)  # (until the call writes its pictures)
     process.send_signal(signal.SIGINT)
     out, err = process.communicate(timeout=60)
     assert "done" not in out and err.rstrip().endswith("KeyboardInterrupt") and not is_there(child)
