@@ -1,6 +1,6 @@
 // The names of the new images: the source's name with the number of the phase, or with the column's side and distance.
 
-use crate::columns::Column;
+use crate::columns::ImageColumn;
 use crate::words::push_number;
 use dk_base::OutOfMemory;
 use dk_types::TypedProgram;
@@ -127,7 +127,7 @@ pub(crate) fn push_phase_name(
 pub(crate) fn push_column_name(
     to: &mut Vec<u8>,
     stems: &Stems,
-    column: Column,
+    column: ImageColumn,
 ) -> Result<(), OutOfMemory> {
     push_stem(to, stems, column.image)?;
     if column.offset < 0 {

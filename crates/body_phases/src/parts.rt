@@ -9,7 +9,7 @@ use std::alloc::Global;
 
 // What a part of a body is.
 #[derive(Clone, Copy)]
-pub(crate) enum Kind {
+pub(crate) enum PartKind {
     // These bytes of the source.
     Bytes(Span),
     Read(TypedRead),
@@ -17,20 +17,25 @@ pub(crate) enum Kind {
 
 // A part of a body, and whether white space is before it.
 #[derive(Clone, Copy)]
-pub(crate) struct Part {
+pub(crate) struct BodyPart {
     pub(crate) has_gap: bool,
-    pub(crate) kind: Kind,
+    pub(crate) kind: PartKind,
 }
 
 // The part that begins at a place of the body from `start` on, where these reads are not passed yet: the next read, or a token.
-fn part_at(tokens: &[Token], start: usize, place: usize, read: Option<&TypedRead>) -> Option<Part> {
+fn part_at(
+    tokens: &[Token],
+    start: usize,
+    place: usize,
+    read: Option<&TypedRead>,
+) -> Option<BodyPart> {
     let token = tokens.get(place)?;
     let kind = match read {
-        Some(read) if begins_read(tokens, place) => Kind::Read(*read),
-        Some(_) => Kind::Bytes(token.span),
-        None => Kind::Bytes(token.span),
+        Some(read) if begins_read(tokens, place) => PartKind::Read(*read),
+        Some(_) => PartKind::Bytes(token.span),
+        None => PartKind::Bytes(token.span),
     };
-    Some(Part {
+    Some(BodyPart {
         has_gap: start < place && has_gap(tokens, place),
         kind,
     })
@@ -42,7 +47,7 @@ pub(crate) fn parts_of(
     tokens: &[Token],
     start: usize,
     body: &TypedExpr,
-) -> Result<Vec<Part>, OutOfMemory> {
+) -> Result<Vec<BodyPart>, OutOfMemory> {
     let reads = reads_of(alloc, body)?;
     let mut parts = Vec::new(alloc);
     let mut passed: usize = 0;
@@ -54,13 +59,14 @@ pub(crate) fn parts_of(
         if place < next {
             continue;
         }
-        if let Some(part) = part_at(tokens, start, place, reads.get(passed)) {
-            if let Kind::Read(_) = part.kind {
-                passed = passed.saturating_add(1);
-                next = after_read(tokens, place);
-            }
-            parts.push(part)?;
+        let Some(part) = part_at(tokens, start, place, reads.get(passed)) else {
+            break;
+        };
+        if let PartKind::Read(_) = part.kind {
+            passed = passed.saturating_add(1);
+            next = after_read(tokens, place);
         }
+        parts.push(part)?;
     }
     Ok(parts)
 }

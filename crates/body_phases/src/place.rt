@@ -4,16 +4,16 @@ use dk_types::TypedRead;
 
 // A column: this phase, so far to the right in the phase's frame.
 #[derive(Clone, Copy)]
-pub(crate) struct Place {
+pub(crate) struct PhaseColumn {
     pub(crate) across: i64,
     pub(crate) phase: u64,
 }
 
 // The place of a column that is counted from the first phase at the point.
-pub(crate) fn place_of(phases: u32, column: i64) -> Place {
+pub(crate) fn place_of(phases: u32, column: i64) -> PhaseColumn {
     let count = i64::from(phases.max(1));
     let phase = column.rem_euclid(count);
-    Place {
+    PhaseColumn {
         across: column.saturating_sub(phase) / count,
         phase: phase.unsigned_abs(),
     }
@@ -25,7 +25,7 @@ pub(crate) fn column_of(read: TypedRead, phase: u32) -> i64 {
 }
 
 // Whether a read of the phase leaves the frame on the side of its outermost column only, if at all. A clamped read of it is then at the nearest column of the source's frame.
-pub(crate) fn stays_in_phase(phases: u32, place: Place) -> bool {
+pub(crate) fn stays_in_phase(phases: u32, place: PhaseColumn) -> bool {
     if place.across == 0 {
         return true;
     }

@@ -1,12 +1,12 @@
 // A whole program as text.
 
-use crate::columns::{Column, columns_of, needed_column};
+use crate::columns::{ImageColumn, columns_of, needed_column};
 use crate::names::{Stems, push_column_name, push_phase_name, stems_of};
-use crate::parts::{Kind, Part, parts_of};
-use crate::place::{Place, column_of, place_of};
+use crate::parts::{BodyPart, PartKind, parts_of};
+use crate::place::{PhaseColumn, column_of, place_of};
 use crate::tokens::body_start;
 use crate::words::{push_number, push_point, push_typing};
-use dk_base::{FrameSize, OutOfMemory, Ty};
+use dk_base::{FrameSize, OutOfMemory, Span, Ty};
 use dk_lexer::{LexError, Token, lex};
 use dk_types::{TypedDefinition, TypedProgram, TypedRead};
 use std::alloc::{AllocError, Global};
@@ -18,7 +18,7 @@ struct Wide<'a> {
     program: &'a TypedProgram,
     phases: u32,
     stems: Stems,
-    columns: Vec<Column>,
+    columns: Vec<ImageColumn>,
 }
 
 fn push_size(to: &mut Vec<u8>, size: FrameSize, phases: u32) -> Result<(), OutOfMemory> {
@@ -35,7 +35,7 @@ fn push_place(
     to: &mut Vec<u8>,
     wide: &Wide<'_>,
     image: u32,
-    place: Place,
+    place: PhaseColumn,
     is_clamped: bool,
 ) -> Result<(), OutOfMemory> {
     push_phase_name(to, &wide.stems, image, place.phase)?;
@@ -43,14 +43,14 @@ fn push_place(
 }
 
 // The outermost column on the side of a column, one group nearer.
-fn edge_of(wide: &Wide<'_>, place: Place) -> Place {
+fn edge_of(wide: &Wide<'_>, place: PhaseColumn) -> PhaseColumn {
     if place.across < 0 {
-        Place {
+        PhaseColumn {
             across: place.across.saturating_add(1),
             phase: 0,
         }
     } else {
-        Place {
+        PhaseColumn {
             across: place.across.saturating_sub(1),
             phase: u64::from(wide.phases.saturating_sub(1)),
         }
@@ -58,7 +58,7 @@ fn edge_of(wide: &Wide<'_>, place: Place) -> Place {
 }
 
 // Adds the definition of a column: that of its phase where the group is in the frame, and else the outermost one.
-fn push_column(to: &mut Vec<u8>, wide: &Wide<'_>, column: Column) -> Result<(), OutOfMemory> {
+fn push_column(to: &mut Vec<u8>, wide: &Wide<'_>, column: ImageColumn) -> Result<(), OutOfMemory> {
     let place = place_of(wide.phases, column.offset);
     let edge = edge_of(wide, place);
     to.extend_from_slice(b"inline let ")?;
@@ -101,11 +101,17 @@ fn push_read(
     push_point(to, place.across, dy, read.clamped && is_moved)
 }
 
+// Adds these bytes of the source.
+fn push_bytes(to: &mut Vec<u8>, wide: &Wide<'_>, span: Span) -> Result<(), OutOfMemory> {
+    to.extend_from_slice(wide.source.get(span.start..span.stop).unwrap_or(b""))?;
+    Ok(())
+}
+
 // Adds a body in a phase.
 fn push_parts(
     to: &mut Vec<u8>,
     wide: &Wide<'_>,
-    parts: &[Part],
+    parts: &[BodyPart],
     phase: u32,
 ) -> Result<(), OutOfMemory> {
     for part in parts {
@@ -113,11 +119,8 @@ fn push_parts(
             to.push(b' ')?;
         }
         match part.kind {
-            Kind::Bytes(span) => {
-                let bytes = wide.source.get(span.start..span.stop).unwrap_or(b"");
-                to.extend_from_slice(bytes)?;
-            }
-            Kind::Read(read) => push_read(to, wide, read, phase)?,
+            PartKind::Bytes(span) => push_bytes(to, wide, span)?,
+            PartKind::Read(read) => push_read(to, wide, read, phase)?,
         }
     }
     Ok(())
@@ -129,7 +132,7 @@ fn push_phase(
     wide: &Wide<'_>,
     image: u32,
     definition: &TypedDefinition,
-    parts: &[Part],
+    parts: &[BodyPart],
     phase: u32,
 ) -> Result<(), OutOfMemory> {
     if definition.inline {
@@ -152,7 +155,7 @@ fn push_definition(
     wide: &Wide<'_>,
     image: u32,
     definition: &TypedDefinition,
-    parts: &[Part],
+    parts: &[BodyPart],
 ) -> Result<(), OutOfMemory> {
     for phase in 0..wide.phases {
         push_phase(to, wide, image, definition, parts, phase)?;
