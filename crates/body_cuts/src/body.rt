@@ -3,8 +3,8 @@
 use crate::expanded::Expanded;
 use crate::images::{image_name, read_levels};
 use crate::levels::{levels_of, raised};
-use crate::names::Names;
-use crate::pieces::{Above, Piece, Pieces, cut, moved_piece, offset_read, share};
+use crate::names::NamedProgram;
+use crate::pieces::{Above, BodyPiece, Pieces, cut, moved_piece, offset_read, share};
 use crate::product::{Factor, divided, has_divided, is_divided};
 use crate::repeats::{Shift, classes_of};
 use body_terms::{
@@ -17,7 +17,7 @@ use std::alloc::Global;
 // A body and its pieces.
 #[derive(Drop)]
 pub(crate) struct Body {
-    pub(crate) pieces: Vec<Piece>,
+    pub(crate) pieces: Vec<BodyPiece>,
     pub(crate) text: Vec<u8>,
     pub(crate) levels: u32,
     // Whether it tests if a point is in the frame.
@@ -55,7 +55,7 @@ fn test_part(
 }
 
 // The read of a piece at a column. A clamped one chooses among taps.
-fn moved_read(alloc: Global, piece: &Piece, shift: Shift) -> Result<Part, OutOfMemory> {
+fn moved_read(alloc: Global, piece: &BodyPiece, shift: Shift) -> Result<Part, OutOfMemory> {
     let levels = u32::from(shift.clamped);
     offset_read(alloc, &piece.name, (shift.dx, 0), shift.clamped, levels)
 }
@@ -118,13 +118,14 @@ fn part(
         TermNode::Read(read) => read_part(alloc, pieces, *read),
         TermNode::InFrame(dx, dy) => test_part(alloc, pieces, *dx, *dy),
         TermNode::Unary(operator, a) => unary(alloc, *operator, part(alloc, pieces, below, a)?),
+        TermNode::Binary(_, a, b) if is_divided => {
+            let one = Factor::new(part(alloc, pieces, below, a)?, a.ty);
+            let other = Factor::new(part(alloc, pieces, below, b)?, b.ty);
+            return product(alloc, pieces, above, (one, other));
+        }
         TermNode::Binary(operator, a, b) => {
             let one = part(alloc, pieces, below, a)?;
             let other = part(alloc, pieces, below, b)?;
-            if is_divided {
-                let factors = (Factor::new(one, a.ty), Factor::new(other, b.ty));
-                return product(alloc, pieces, above, factors);
-            }
             binary(alloc, *operator, one, other)
         }
         TermNode::Scale(operator, a, by) => {
@@ -174,7 +175,7 @@ fn made(alloc: Global, mut pieces: Pieces<'_>, e: &Term) -> Result<Body, OutOfMe
 // The body of the definition with this name. If it passes the limit, its expanded body is cut. If a piece would have no name, it is whole. The levels are those of the bodies before.
 pub(crate) fn cut_body<'a>(
     alloc: Global,
-    names: &'a Names<'a>,
+    names: &'a NamedProgram<'a>,
     levels: &'a [u32],
     stem: &'a [u8],
     expanded: &'a Expanded,

@@ -9,7 +9,7 @@ use std::alloc::Global;
 
 // What is known of a definition, and whether its body is cut.
 #[derive(Clone, Copy)]
-pub(crate) struct Choice {
+pub(crate) struct CutChoice {
     // Whether its body is never cut: it is inline and no output, or must stay whole.
     stays_whole: bool,
     // Whether it must stay whole.
@@ -19,25 +19,31 @@ pub(crate) struct Choice {
     pub(crate) is_cut: bool,
 }
 
+// What is known of the definition of an image, if it has one.
+fn choice_of<'a>(
+    program: &TypedProgram,
+    image: u32,
+    choices: &'a mut [CutChoice],
+) -> Option<&'a mut CutChoice> {
+    let number = definition_number(program, image)?;
+    choices.get_mut(number)
+}
+
 // Notes that the images that are outputs may be cut.
-fn free_outputs(program: &TypedProgram, choices: &mut [Choice]) {
+fn free_outputs(program: &TypedProgram, choices: &mut [CutChoice]) {
     for output in program.outputs() {
-        if let Some(number) = definition_number(program, *output) {
-            if number < choices.len() {
-                choices[number].stays_whole = false;
-            }
+        if let Some(choice) = choice_of(program, *output, choices) {
+            choice.stays_whole = false;
         }
     }
 }
 
 // Notes that these images must not be cut.
-fn keep_whole(program: &TypedProgram, whole: &[u32], choices: &mut [Choice]) {
+fn keep_whole(program: &TypedProgram, whole: &[u32], choices: &mut [CutChoice]) {
     for image in whole {
-        if let Some(number) = definition_number(program, *image) {
-            if number < choices.len() {
-                choices[number].stays_whole = true;
-                choices[number].is_refused = true;
-            }
+        if let Some(choice) = choice_of(program, *image, choices) {
+            choice.stays_whole = true;
+            choice.is_refused = true;
         }
     }
 }
@@ -47,10 +53,10 @@ pub(crate) fn no_cuts(
     alloc: Global,
     program: &TypedProgram,
     whole: &[u32],
-) -> Result<Vec<Choice>, OutOfMemory> {
+) -> Result<Vec<CutChoice>, OutOfMemory> {
     let mut choices = Vec::new(alloc);
     for definition in program.definitions() {
-        choices.push(Choice {
+        choices.push(CutChoice {
             stays_whole: definition.inline,
             is_refused: false,
             depth: 0,
@@ -63,21 +69,21 @@ pub(crate) fn no_cuts(
 }
 
 // Cuts all bodies that may be cut, or none.
-pub(crate) fn cut_each(choices: &mut [Choice], is_cut: bool) {
+pub(crate) fn cut_each(choices: &mut [CutChoice], is_cut: bool) {
     for choice in choices.iter_mut() {
         choice.is_cut = is_cut && !choice.stays_whole;
     }
 }
 
 // Notes the levels of the bodies, not cut.
-pub(crate) fn note_depths(choices: &mut [Choice], levels: &[u32]) {
+pub(crate) fn note_depths(choices: &mut [CutChoice], levels: &[u32]) {
     for (choice, depth) in choices.iter_mut().zip(levels) {
         choice.depth = *depth;
     }
 }
 
 // The deepest body that may be cut, is not, and has at least this many levels.
-pub(crate) fn deepest(choices: &[Choice], least: u32) -> Option<usize>
+pub(crate) fn deepest(choices: &[CutChoice], least: u32) -> Option<usize>
     ensures { IfSome result (λ number. number < length choices.now) }
 {
     let mut found = None;

@@ -39,11 +39,9 @@ pub(crate) fn term_of(
     let as_written = stays || !varies(reads, e);
     let node = match &e.node {
         TypedNode::Number(value) => TermNode::Number(*value),
+        TypedNode::Read(read) if stays => TermNode::Read(read_of(*read)),
         TypedNode::Read(read) => {
-            if !stays {
-                return boxed(alloc, reads.replaced(alloc, read_of(*read), e.ty)?);
-            }
-            TermNode::Read(read_of(*read))
+            return boxed(alloc, reads.replaced(alloc, read_of(*read), e.ty)?);
         }
         TypedNode::Unary(operator, a) => {
             TermNode::Unary(*operator, term_of(alloc, reads, a, as_written)?)

@@ -1,9 +1,9 @@
 // Whole programs.
 
-use crate::choices::{Choice, cut_each, deepest, no_cuts, note_depths};
-use crate::draft::{Draft, make_draft, program_text};
+use crate::choices::{CutChoice, cut_each, deepest, no_cuts, note_depths};
+use crate::draft::{CutDraft, make_draft, program_text};
 use crate::expanded::{Expanded, expanded_bodies};
-use crate::names::{Names, names_of};
+use crate::names::{NamedProgram, names_of};
 use crate::uncut::UncutBody;
 use dk_base::{MAX_DEFINITIONS, OutOfMemory};
 use dk_types::TypedProgram;
@@ -12,11 +12,11 @@ use std::alloc::Global;
 // The program with its deepest bodies cut, as many as the limit on definitions allows. No body is cut yet.
 fn deepest_first(
     alloc: Global,
-    names: &Names<'_>,
+    names: &NamedProgram<'_>,
     expanded: &[Expanded],
-    choices: &mut [Choice],
+    choices: &mut [CutChoice],
     most: u32,
-) -> Result<Draft, OutOfMemory> {
+) -> Result<CutDraft, OutOfMemory> {
     let mut best = make_draft(alloc, names, expanded, choices, most)?;
     note_depths(choices, &best.levels);
     for _ in 0..MAX_DEFINITIONS {
@@ -36,10 +36,10 @@ fn deepest_first(
 // The program with each body cut, if the limit on definitions allows it.
 fn best_draft(
     alloc: Global,
-    names: &Names<'_>,
+    names: &NamedProgram<'_>,
     whole: &[u32],
     most: u32,
-) -> Result<Draft, OutOfMemory> {
+) -> Result<CutDraft, OutOfMemory> {
     let expanded = expanded_bodies(alloc, names.program, most)?;
     let mut choices = no_cuts(alloc, names.program, whole)?;
     cut_each(&mut choices, true);

@@ -1,12 +1,12 @@
 // A whole program as text.
 
 use crate::body::{NO_LIMIT, cut_body};
-use crate::choices::Choice;
+use crate::choices::CutChoice;
 use crate::expanded::Expanded;
 use crate::images::image_name;
-use crate::names::Names;
-use crate::pieces::Piece;
-use crate::text::Text;
+use crate::names::NamedProgram;
+use crate::pieces::BodyPiece;
+use crate::text::GrowingText;
 use crate::uncut::{UncutBody, note_uncut};
 use dk_base::{FrameSize, MAX_DEFINITIONS, OutOfMemory};
 use dk_types::{TypedDefinition, TypedProgram};
@@ -14,8 +14,8 @@ use std::alloc::Global;
 
 // The definitions of a program's text.
 #[derive(Drop)]
-pub(crate) struct Draft {
-    text: Text,
+pub(crate) struct CutDraft {
+    text: GrowingText,
     // The number of definitions, with that of the image that is 1.
     pub(crate) definitions: usize,
     // The levels of each body that the source has.
@@ -29,11 +29,11 @@ pub(crate) struct Draft {
 }
 
 // The most levels of a body.
-fn limit(choice: Choice, most: u32) -> u32 {
+fn limit(choice: CutChoice, most: u32) -> u32 {
     if choice.is_cut { most } else { NO_LIMIT }
 }
 
-fn push_size(to: &mut Text, size: FrameSize) {
+fn push_size(to: &mut GrowingText, size: FrameSize) {
     to.push(b"size ");
     to.push_number(size.width);
     to.push(b" ");
@@ -41,7 +41,7 @@ fn push_size(to: &mut Text, size: FrameSize) {
     to.push(b"\n");
 }
 
-fn push_inputs(to: &mut Text, program: &TypedProgram) {
+fn push_inputs(to: &mut GrowingText, program: &TypedProgram) {
     for input in program.inputs() {
         to.push(b"input ");
         to.push(input.name.text.as_bytes());
@@ -50,7 +50,7 @@ fn push_inputs(to: &mut Text, program: &TypedProgram) {
     }
 }
 
-fn push_outputs(to: &mut Text, program: &TypedProgram) {
+fn push_outputs(to: &mut GrowingText, program: &TypedProgram) {
     for output in program.outputs() {
         to.push(b"output ");
         to.push(image_name(program, *output));
@@ -58,13 +58,13 @@ fn push_outputs(to: &mut Text, program: &TypedProgram) {
     }
 }
 
-fn push_body(to: &mut Text, text: &[u8]) {
+fn push_body(to: &mut GrowingText, text: &[u8]) {
     to.push(b" = im(x,y) ");
     to.push(text);
     to.push(b" end\n");
 }
 
-fn push_pieces(to: &mut Text, pieces: &[Piece]) {
+fn push_pieces(to: &mut GrowingText, pieces: &[BodyPiece]) {
     for piece in pieces {
         to.push(b"let ");
         to.push(&piece.name);
@@ -73,7 +73,7 @@ fn push_pieces(to: &mut Text, pieces: &[Piece]) {
 }
 
 // Adds what a definition has before its body.
-fn push_opening(to: &mut Text, definition: &TypedDefinition) {
+fn push_opening(to: &mut GrowingText, definition: &TypedDefinition) {
     if definition.inline {
         to.push(b"inline ");
     }
@@ -85,7 +85,7 @@ fn push_opening(to: &mut Text, definition: &TypedDefinition) {
 }
 
 // Counts the definitions of a body, and that of the image that is 1 where it is the first that reads it.
-fn count_definitions(draft: &mut Draft, pieces: usize, tests_frame: bool) {
+fn count_definitions(draft: &mut CutDraft, pieces: usize, tests_frame: bool) {
     let mut added = pieces.saturating_add(1);
     if tests_frame && !draft.tests_frame {
         draft.tests_frame = true;
@@ -97,11 +97,11 @@ fn count_definitions(draft: &mut Draft, pieces: usize, tests_frame: bool) {
 // Adds a definition after its pieces.
 fn push_definition(
     alloc: Global,
-    names: &Names<'_>,
-    draft: &mut Draft,
+    names: &NamedProgram<'_>,
+    draft: &mut CutDraft,
     definition: &TypedDefinition,
     expanded: &Expanded,
-    choice: Choice,
+    choice: CutChoice,
 ) -> Result<(), OutOfMemory> {
     let stem = definition.name.text.as_bytes();
     let limit = limit(choice, draft.most);
@@ -120,13 +120,13 @@ fn push_definition(
 // The definitions with these bodies cut at `most` levels. If there are too many, the last ones may lack, since such a draft is not used.
 pub(crate) fn make_draft(
     alloc: Global,
-    names: &Names<'_>,
+    names: &NamedProgram<'_>,
     expanded: &[Expanded],
-    choices: &[Choice],
+    choices: &[CutChoice],
     most: u32,
-) -> Result<Draft, OutOfMemory> {
-    let mut draft = Draft {
-        text: Text::new(alloc),
+) -> Result<CutDraft, OutOfMemory> {
+    let mut draft = CutDraft {
+        text: GrowingText::new(alloc),
         definitions: 0,
         levels: Vec::new(alloc),
         most,
@@ -147,10 +147,10 @@ pub(crate) fn make_draft(
 pub(crate) fn program_text(
     alloc: Global,
     head: &[u8],
-    names: &Names<'_>,
-    draft: &Draft,
+    names: &NamedProgram<'_>,
+    draft: &CutDraft,
 ) -> Result<Vec<u8>, OutOfMemory> {
-    let mut text = Text::new(alloc);
+    let mut text = GrowingText::new(alloc);
     text.push(head);
     push_size(&mut text, names.program.size());
     push_inputs(&mut text, names.program);

@@ -1,4 +1,4 @@
-// Names that a program has, and names that it does not have.
+// NamedProgram that a program has, and names that it does not have.
 
 use body_terms::numbered;
 use dk_base::OutOfMemory;
@@ -10,7 +10,7 @@ pub(crate) const END_OF_NUMBERS: u32 = 1_000;
 
 // A program, and the name of the inline image that is 1, whose reads test whether a point is in the frame.
 #[derive(Drop)]
-pub(crate) struct Names<'a> {
+pub(crate) struct NamedProgram<'a> {
     pub(crate) program: &'a TypedProgram,
     pub(crate) frame: Vec<u8>,
 }
@@ -39,7 +39,7 @@ fn is_name(program: &TypedProgram, name: &[u8]) -> bool {
 }
 
 // Whether an image has this name.
-pub(crate) fn is_taken(names: &Names<'_>, name: &[u8]) -> bool {
+pub(crate) fn is_taken(names: &NamedProgram<'_>, name: &[u8]) -> bool {
     names.frame.as_slice() == name || is_name(names.program, name)
 }
 
@@ -47,7 +47,7 @@ pub(crate) fn is_taken(names: &Names<'_>, name: &[u8]) -> bool {
 pub(crate) fn names_of<'a>(
     alloc: Global,
     program: &'a TypedProgram,
-) -> Result<Names<'a>, OutOfMemory> {
+) -> Result<NamedProgram<'a>, OutOfMemory> {
     let mut frame = Vec::from_slice(alloc, b"frame")?;
     for number in 1..END_OF_NUMBERS {
         if !is_name(program, &frame) {
@@ -55,5 +55,5 @@ pub(crate) fn names_of<'a>(
         }
         frame = numbered(alloc, b"frame", number)?;
     }
-    Ok(Names { program, frame })
+    Ok(NamedProgram { program, frame })
 }

@@ -1,6 +1,6 @@
 // The pieces that a body is cut into.
 
-use crate::names::{END_OF_NUMBERS, Names, is_taken};
+use crate::names::{END_OF_NUMBERS, NamedProgram, is_taken};
 use crate::repeats::{Shift, are_equal, shared_shift};
 use body_terms::{Binding, Part, Term, numbered, piece_read, push_read};
 use dk_base::{MAX_DEFINITIONS, MAX_NAME_BYTES, OutOfMemory};
@@ -8,7 +8,7 @@ use std::alloc::Global;
 
 // A definition that is made of a part of a body.
 #[derive(Drop)]
-pub(crate) struct Piece {
+pub(crate) struct BodyPiece {
     pub(crate) name: Vec<u8>,
     pub(crate) text: Vec<u8>,
 }
@@ -32,7 +32,7 @@ pub(crate) enum Above {
 // The pieces of one body so far, and what they are made by.
 #[derive(Drop)]
 pub(crate) struct Pieces<'a> {
-    pub(crate) names: &'a Names<'a>,
+    pub(crate) names: &'a NamedProgram<'a>,
     // The levels of the bodies before.
     pub(crate) levels: &'a [u32],
     pub(crate) limit: u32,
@@ -40,7 +40,7 @@ pub(crate) struct Pieces<'a> {
     stem: &'a [u8],
     // The first number that was not tried in a name.
     next: u32,
-    pub(crate) items: Vec<Piece>,
+    pub(crate) items: Vec<BodyPiece>,
     // The parts that the body has at several columns.
     shared: Vec<Shared<'a>>,
     // Whether reads are made without their moves along the line, as in a piece that is shared.
@@ -55,7 +55,7 @@ impl<'a> Pieces<'a> {
     // None yet.
     pub(crate) fn new(
         alloc: Global,
-        names: &'a Names<'a>,
+        names: &'a NamedProgram<'a>,
         levels: &'a [u32],
         stem: &'a [u8],
         limit: u32,
@@ -100,7 +100,7 @@ fn next_name(alloc: Global, pieces: &mut Pieces<'_>) -> Result<Option<Vec<u8>>, 
 }
 
 // The piece of this text, if there is one.
-fn known_piece<'a>(items: &'a [Piece], text: &[u8]) -> Option<&'a Piece> {
+fn known_piece<'a>(items: &'a [BodyPiece], text: &[u8]) -> Option<&'a BodyPiece> {
     for piece in items {
         if piece.text.as_slice() == text {
             return Some(piece);
@@ -116,7 +116,7 @@ fn make_piece(alloc: Global, pieces: &mut Pieces<'_>, part: Part) -> Result<Part
     };
     let read = piece_read(alloc, &name)?;
     let text = part.text;
-    pieces.items.push(Piece { name, text })?;
+    pieces.items.push(BodyPiece { name, text })?;
     Ok(read)
 }
 
@@ -174,12 +174,12 @@ pub(crate) fn share<'a>(
         piece: pieces.items.len(),
     })?;
     let text = part.text;
-    pieces.items.push(Piece { name, text })?;
+    pieces.items.push(BodyPiece { name, text })?;
     Ok(())
 }
 
 // The shared piece that the expression is but for its move, if there is one.
-fn shared_piece<'a>(pieces: &'a Pieces<'_>, e: &Term) -> Option<&'a Piece> {
+fn shared_piece<'a>(pieces: &'a Pieces<'_>, e: &Term) -> Option<&'a BodyPiece> {
     for shared in &pieces.shared {
         if are_equal(shared.part, e) {
             return pieces.items.get(shared.piece);
@@ -189,7 +189,7 @@ fn shared_piece<'a>(pieces: &'a Pieces<'_>, e: &Term) -> Option<&'a Piece> {
 }
 
 // The shared piece that the expression is but for its move, with this move.
-pub(crate) fn moved_piece<'a>(pieces: &'a Pieces<'_>, e: &Term) -> Option<(&'a Piece, Shift)> {
+pub(crate) fn moved_piece<'a>(pieces: &'a Pieces<'_>, e: &Term) -> Option<(&'a BodyPiece, Shift)> {
     let piece = shared_piece(pieces, e)?;
     let shift = shared_shift(pieces.names.program, e)?;
     if pieces.is_still {

@@ -161,15 +161,13 @@ impl<'a> Classes<'a> {
     // Adds a part whose reads are moved by these columns.
     fn add(&mut self, part: &'a Term, dx: i32) -> Result<(), OutOfMemory> {
         let mark = mark_of(part);
-        match self.find(mark, part) {
-            Some(place) => {
-                if let Some(class) = self.parts.get_mut(place) {
-                    class.is_repeated = class.is_repeated || class.dx != dx;
-                }
-                Ok(())
-            }
-            None => self.begin(mark, part, dx),
+        let Some(place) = self.find(mark, part) else {
+            return self.begin(mark, part, dx);
+        };
+        if let Some(class) = self.parts.get_mut(place) {
+            class.is_repeated = class.is_repeated || class.dx != dx;
         }
+        Ok(())
     }
 }
 

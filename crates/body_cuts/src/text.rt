@@ -6,15 +6,15 @@ use std::alloc::{AllocError, Global};
 
 // A text. Once memory is out it has gaps, and `finished` is an error.
 #[derive(Drop)]
-pub(crate) struct Text {
+pub(crate) struct GrowingText {
     bytes: Vec<u8>,
     has_gaps: bool,
 }
 
-impl Text {
+impl GrowingText {
     // The empty text.
-    pub(crate) fn new(alloc: Global) -> Text {
-        Text {
+    pub(crate) fn new(alloc: Global) -> GrowingText {
+        GrowingText {
             bytes: Vec::new(alloc),
             has_gaps: false,
         }
@@ -47,7 +47,7 @@ impl Text {
     }
 
     // Adds another text.
-    pub(crate) fn append(&mut self, other: &Text) {
+    pub(crate) fn append(&mut self, other: &GrowingText) {
         self.push(&other.bytes);
         if other.has_gaps {
             self.has_gaps = true;

@@ -1,6 +1,6 @@
 // Bodies that keep more levels than was asked.
 
-use crate::choices::Choice;
+use crate::choices::CutChoice;
 use dk_base::OutOfMemory;
 use std::alloc::Global;
 
@@ -25,7 +25,7 @@ pub struct UncutBody {
 }
 
 // Why the body of this choice was not cut. None if it was cut.
-fn reason_of(choice: Choice, is_unnamed: bool) -> Option<Reason> {
+fn reason_of(choice: CutChoice, is_unnamed: bool) -> Option<Reason> {
     if choice.is_refused {
         Some(Reason::Moved)
     } else if !choice.is_cut {
@@ -42,7 +42,7 @@ pub(crate) fn note_uncut(
     alloc: Global,
     uncut: &mut Vec<UncutBody>,
     name: &[u8],
-    choice: Choice,
+    choice: CutChoice,
     is_unnamed: bool,
 ) -> Result<(), OutOfMemory> {
     if let Some(reason) = reason_of(choice, is_unnamed) {
