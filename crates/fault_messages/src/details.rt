@@ -5,17 +5,29 @@ use crate::limits::{push_limit, push_limit_help};
 use crate::type_help::push_type_help;
 use crate::types::{Typed, push_typed};
 use dk_base::OutOfMemory;
+use dk_types::TypeFault;
 use source_fault::{SourceFault, Subject};
 use source_places::PlainText;
 use std::alloc::Global;
 use syntax_messages::{Detail, Source, push_excerpt, push_syntax};
 use type_faults::FoundTypes;
 
-// On a fault of types.
-fn push_typed_detail(to: &mut Detail, alloc: Global, of: &Typed<'_>) {
-    push_typed(to, of);
-    push_excerpt(to, alloc, of.source, of.fault.span);
-    push_type_help(to, of);
+// On a fault of types, with the types at it.
+fn push_typed_detail(
+    to: &mut Detail,
+    alloc: Global,
+    source: &Source<'_>,
+    fault: TypeFault,
+    types: FoundTypes,
+) {
+    let of = Typed {
+        source,
+        fault,
+        types,
+    };
+    push_typed(to, &of);
+    push_excerpt(to, alloc, source, fault.span);
+    push_type_help(to, &of);
 }
 
 // On a program over a limit.
@@ -42,14 +54,7 @@ pub(crate) fn detail(
             push_lexical_help(&mut to, source.text, fault);
         }
         SourceFault::Syntax { span } => push_syntax(&mut to, alloc, source, span),
-        SourceFault::Types(fault) => {
-            let of = Typed {
-                source,
-                fault,
-                types,
-            };
-            push_typed_detail(&mut to, alloc, &of);
-        }
+        SourceFault::Types(fault) => push_typed_detail(&mut to, alloc, source, fault, types),
         SourceFault::TooLong
         | SourceFault::Nest { span: _ }
         | SourceFault::Depth { span: _ }

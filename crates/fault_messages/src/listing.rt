@@ -14,7 +14,7 @@ use dk_parser::{ParseError, parse};
 use dk_types::TypeFault;
 use itoa::Buffer;
 use source_fault::{SourceFault, Subject};
-use source_places::{Place, place_of, shown_name};
+use source_places::{TextPosition, place_of, shown_name};
 use std::alloc::{AllocError, Global};
 use syntax_messages::Source;
 use type_faults::{FoundFault, FoundTypes, type_faults};
@@ -30,7 +30,7 @@ fn start(fault: SourceFault) -> usize
 }
 
 // What a message begins with.
-fn head(alloc: Global, name: &str, at: Place, kind: &str) -> Result<Vec<u8>, OutOfMemory>
+fn head(alloc: Global, name: &str, at: TextPosition, kind: &str) -> Result<Vec<u8>, OutOfMemory>
     ensures { IfOk result (λ v. v.items ≡ head_of name.now at.line at.column kind.now) }
 {
     let mut line = Buffer::new();

@@ -68,17 +68,19 @@ fn later_declaration(tokens: &[Token], name: &[u8], after: usize) -> Option<Span
     None
 }
 
+// Whether the token at a place is the name of a definition.
+fn is_defined(tokens: &[Token], place: usize) -> bool {
+    matches!(
+        class_before(tokens, place, 1),
+        TokenClass::Keyword(Keyword::Let)
+    )
+}
+
 // Whether the last definition that begins before a place has this name.
 fn is_own(tokens: &[Token], name: &[u8], before: usize) -> bool {
     for place in (0..before.min(tokens.len())).rev() {
-        if matches!(
-            class_before(tokens, place, 1),
-            TokenClass::Keyword(Keyword::Let)
-        ) {
-            return match tokens.get(place) {
-                Some(token) => is_word(token, name),
-                None => false,
-            };
+        if is_defined(tokens, place) {
+            return is_word(&tokens[place], name);
         }
     }
     false

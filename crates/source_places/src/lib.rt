@@ -8,7 +8,7 @@ mod text;
 
 pub use marked::excerpt;
 pub use name::shown_name;
-pub use position::{Place, place_of};
+pub use position::{TextPosition, place_of};
 pub use text::PlainText;
 
 /// The greatest length of a `PlainText`, in bytes.

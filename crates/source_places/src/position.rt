@@ -5,7 +5,7 @@ ghost use Rattle.source_places.specs.Places.{is_line_end as line_end, begins_cha
 
 /// A place in a text. Both numbers begin at 1. A column is a character of UTF-8.
 #[derive(Clone, Copy)]
-pub struct Place {
+pub struct TextPosition {
     pub line: u64,
     pub column: u64,
 }
@@ -36,7 +36,7 @@ pub(crate) fn last_line(text: &[u8]) -> &[u8]
 }
 
 /// The place of a byte of a text. A byte past the end has the place of the end.
-pub fn place_of(text: &[u8], at: usize) -> Place
+pub fn place_of(text: &[u8], at: usize) -> TextPosition
     ensures line { result.line ≡ suc (count_by line_end (take at text.now)) }
     ensures column { result.column ≡ suc (count_by begins (the_last_line (take at text.now))) }
 {
@@ -47,7 +47,7 @@ pub fn place_of(text: &[u8], at: usize) -> Place
         .iter()
         .filter(|byte| **byte < 128 || 191 < **byte)
         .count();
-    Place {
+    TextPosition {
         line: line_ends as u64 + 1,
         column: characters as u64 + 1,
     }

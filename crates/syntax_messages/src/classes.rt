@@ -33,34 +33,36 @@ pub(crate) fn symbol_text(symbol: Symbol) -> &'static str {
 
 /// Whether the class is a comparison.
 pub(crate) fn is_comparison(class: TokenClass) -> bool {
+    let TokenClass::Symbol(symbol) = class else {
+        return false;
+    };
     matches!(
-        class,
-        TokenClass::Symbol(
-            Symbol::Less
-                | Symbol::LessEqual
-                | Symbol::Greater
-                | Symbol::GreaterEqual
-                | Symbol::EqualEqual
-                | Symbol::NotEqual
-        )
+        symbol,
+        Symbol::Less
+            | Symbol::LessEqual
+            | Symbol::Greater
+            | Symbol::GreaterEqual
+            | Symbol::EqualEqual
+            | Symbol::NotEqual
     )
 }
 
 // Whether the class is an operator on numbers after an operand.
 fn is_arithmetic(class: TokenClass) -> bool {
+    let TokenClass::Symbol(symbol) = class else {
+        return false;
+    };
     matches!(
-        class,
-        TokenClass::Symbol(
-            Symbol::Plus
-                | Symbol::Minus
-                | Symbol::Star
-                | Symbol::Slash
-                | Symbol::ShiftLeft
-                | Symbol::ShiftRight
-                | Symbol::Ampersand
-                | Symbol::Caret
-                | Symbol::Bar
-        )
+        symbol,
+        Symbol::Plus
+            | Symbol::Minus
+            | Symbol::Star
+            | Symbol::Slash
+            | Symbol::ShiftLeft
+            | Symbol::ShiftRight
+            | Symbol::Ampersand
+            | Symbol::Caret
+            | Symbol::Bar
     )
 }
 

@@ -72,20 +72,23 @@ fn is_base(word: &[u8]) -> bool {
     }
 }
 
+// Whether a token of the class begins with a letter.
+fn is_letters(class: TokenClass) -> bool {
+    matches!(
+        class,
+        TokenClass::Name | TokenClass::Type | TokenClass::Keyword(_)
+    )
+}
+
 // A word right after a number.
 fn number_word(a: &Around<'_>) -> Option<Mistake> {
-    match (a.first, a.found) {
-        (TokenClass::Number, TokenClass::Name | TokenClass::Type | TokenClass::Keyword(_)) => {
-            if !touches(a.source.tokens, a.place) {
-                None
-            } else if is_text(a.bytes_before(), b"0") && is_base(a.bytes()) {
-                Some(Mistake::Radix)
-            } else {
-                Some(Mistake::NUMBER_THEN_WORD)
-            }
-        }
-        _ => None,
+    if a.first != TokenClass::Number || !is_letters(a.found) || !touches(a.source.tokens, a.place) {
+        return None;
     }
+    if is_text(a.bytes_before(), b"0") && is_base(a.bytes()) {
+        return Some(Mistake::Radix);
+    }
+    Some(Mistake::NUMBER_THEN_WORD)
 }
 
 // The reserved word that a word is in lower case.
@@ -101,16 +104,14 @@ fn lowered(alloc: Global, word: &[u8]) -> Option<Keyword> {
 
 // A reserved word with upper-case letters.
 fn upper_case(alloc: Global, a: &Around<'_>) -> Option<Mistake> {
-    match a.found {
-        TokenClass::Name => {
-            let keyword = lowered(alloc, a.bytes())?;
-            if a.expects_keyword(keyword) {
-                Some(Mistake::UpperCase(keyword))
-            } else {
-                None
-            }
-        }
-        _ => None,
+    if a.found != TokenClass::Name {
+        return None;
+    }
+    let keyword = lowered(alloc, a.bytes())?;
+    if a.expects_keyword(keyword) {
+        Some(Mistake::UpperCase(keyword))
+    } else {
+        None
     }
 }
 

@@ -2,7 +2,7 @@
 
 use crate::conversions::is_type;
 use crate::found::FoundTypes;
-use crate::places::{Place, is_among, place_of, reads_any};
+use crate::places::{FaultSite, is_among, place_of, reads_any};
 use crate::probes::{type_of_image, types_in_body};
 use dk_base::{OutOfMemory, Span, Text, Ty};
 use dk_parser::{Def, Expr, Input, Literal, Name, Node, Program, TypeWord};
@@ -211,16 +211,26 @@ fn remove<T: Drop>(items: &mut Vec<T>, at: usize) {
 }
 
 // Takes out what is faulty without a body: a side, an input, or the later one of two definitions of one name. The types at it.
-fn take_out(program: &mut Program, place: Place) -> FoundTypes {
+fn take_out(program: &mut Program, place: FaultSite) -> FoundTypes {
     match place {
-        Place::Width => program.width = one_pixel(program.width),
-        Place::Height => program.height = one_pixel(program.height),
-        Place::InputType(k) => return allow_type(&mut program.inputs, k),
-        Place::Input(k) => remove(&mut program.inputs, k),
-        Place::Definition(k) => remove(&mut program.definitions, k),
-        Place::Body(_) | Place::Output(_) => {}
+        FaultSite::Width => program.width = one_pixel(program.width),
+        FaultSite::Height => program.height = one_pixel(program.height),
+        FaultSite::InputType(k) => return allow_type(&mut program.inputs, k),
+        FaultSite::Input(k) => remove(&mut program.inputs, k),
+        FaultSite::Definition(k) => remove(&mut program.definitions, k),
+        FaultSite::Body(_) | FaultSite::Output(_) => {}
     }
     FoundTypes::None
+}
+
+// The program without a side, an input or a definition.
+fn without_item(program: Program, place: FaultSite) -> Cut {
+    let mut rest = program;
+    let types = take_out(&mut rest, place);
+    Cut {
+        types,
+        rest: Some(rest),
+    }
 }
 
 // Whether there are too many of some items, so that each one after them is a fault too.
@@ -232,7 +242,7 @@ fn is_count(kind: TypeFaultKind) -> bool {
 }
 
 // Where a fault is, if the program without it has faults of its own.
-fn place_to_cut(program: &Program, fault: TypeFault) -> Option<Place> {
+fn place_to_cut(program: &Program, fault: TypeFault) -> Option<FaultSite> {
     if is_count(fault.kind) {
         return None;
     }
@@ -246,16 +256,9 @@ pub(crate) fn without(
     fault: TypeFault,
 ) -> Result<Cut, OutOfMemory> {
     match place_to_cut(&program, fault) {
-        Some(Place::Body(k)) => without_body(alloc, program, k, fault),
-        Some(Place::Output(k)) => without_output(alloc, program, k, fault.kind),
-        Some(place) => {
-            let mut rest = program;
-            let types = take_out(&mut rest, place);
-            Ok(Cut {
-                types,
-                rest: Some(rest),
-            })
-        }
+        Some(FaultSite::Body(k)) => without_body(alloc, program, k, fault),
+        Some(FaultSite::Output(k)) => without_output(alloc, program, k, fault.kind),
+        Some(place) => Ok(without_item(program, place)),
         None => Ok(nothing()),
     }
 }

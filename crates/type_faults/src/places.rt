@@ -6,7 +6,7 @@ use dk_parser::{Def, Expr, Input, Literal, Name, Node, Program};
 
 // Where a fault is.
 #[derive(Clone, Copy)]
-pub(crate) enum Place {
+pub(crate) enum FaultSite {
     Width,
     Height,
     // The name of an input, or its type.
@@ -18,47 +18,47 @@ pub(crate) enum Place {
     Output(usize),
 }
 
-fn input_place(inputs: &[Input], span: Span) -> Option<Place> {
+fn input_place(inputs: &[Input], span: Span) -> Option<FaultSite> {
     for (k, input) in inputs.iter().enumerate() {
         if input.name.span == span {
-            return Some(Place::Input(k));
+            return Some(FaultSite::Input(k));
         }
         if input.ty.span == span {
-            return Some(Place::InputType(k));
+            return Some(FaultSite::InputType(k));
         }
     }
     None
 }
 
-fn definition_place(definitions: &[Def], span: Span) -> Option<Place> {
+fn definition_place(definitions: &[Def], span: Span) -> Option<FaultSite> {
     for (k, definition) in definitions.iter().enumerate() {
         if definition.name.span == span {
-            return Some(Place::Definition(k));
+            return Some(FaultSite::Definition(k));
         }
         if is_within(span, definition.body.span) {
-            return Some(Place::Body(k));
+            return Some(FaultSite::Body(k));
         }
     }
     None
 }
 
-fn output_place(outputs: &[Name], span: Span) -> Option<Place> {
+fn output_place(outputs: &[Name], span: Span) -> Option<FaultSite> {
     let k = outputs.iter().position(|output| output.span == span)?;
-    Some(Place::Output(k))
+    Some(FaultSite::Output(k))
 }
 
-fn side_place(width: Literal, height: Literal, span: Span) -> Option<Place> {
+fn side_place(width: Literal, height: Literal, span: Span) -> Option<FaultSite> {
     if width.span == span {
-        return Some(Place::Width);
+        return Some(FaultSite::Width);
     }
     if height.span == span {
-        return Some(Place::Height);
+        return Some(FaultSite::Height);
     }
     None
 }
 
 // The item with this span.
-pub(crate) fn place_of(program: &Program, span: Span) -> Option<Place> {
+pub(crate) fn place_of(program: &Program, span: Span) -> Option<FaultSite> {
     if let Some(place) = side_place(program.width, program.height, span) {
         return Some(place);
     }
