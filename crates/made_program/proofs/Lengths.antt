@@ -7,7 +7,7 @@ use Rattle.std.proofs.lemmas.Grind.{common_steps}
 use Rattle.std.proofs.lemmas.Nat.{mod_below}
 use Rattle.made_program.specs.declared.draws.BodyKind.{BodyKind}
 use Rattle.made_program.specs.declared.draws.BodyKind.TheVariants.{Mean, Greater, Difference, Weighted}
-use Rattle.made_program.specs.declared.draws.Offset.{Offset}
+use Rattle.made_program.specs.declared.draws.DrawnOffset.{DrawnOffset}
 use Rattle.made_program.specs.Draws.{next, drawn, made_even, after, draws_of}
 use Rattle.made_program.specs.Programs.{width_of, height_of, count_of, seed_of, step, name, read, body, opening, is_inline, definition_at, definitions, head_lines, output_line, program_of}
 
@@ -32,7 +32,7 @@ name_length (suc k) l = omega (arith, length-decimal-le 2 (suc k) (omega arith) 
 spelled : (a b c : List ℕ) → length a ≤ 3 → length b ≤ 2 → length c ≤ 2 → length (a ++ (codes "(x" ++ (b ++ (codes ",y" ++ (c ++ codes ")"))))) ≤ 12
 spelled a b c g h k = grind (arith, common_steps)
 
-read_length : (image : ℕ) (offset : Offset) → image < 100 → length (read image offset) ≤ 12
+read_length : (image : ℕ) (offset : DrawnOffset) → image < 100 → length (read image offset) ≤ 12
 read_length image offset l = spelled (name image) (step offset.dx) (step offset.dy) (name_length image l) (step_length offset.dx) (step_length offset.dy)
 
 body_length : (kind : BodyKind) (a b : List ℕ) → length a ≤ 12 → length b ≤ 12 → length (body kind a b) ≤ 85

@@ -3,7 +3,7 @@ use Rattle.std.specs.Prelude.{ℕ, Bool, zero, suc, ◌+◌, ◌-◌, ◌*◌, �
 use Rattle.made_program.specs.declared.draws.BodyKind.{BodyKind}
 use Rattle.made_program.specs.declared.draws.BodyKind.TheVariants.{Mean, Greater, Difference, Weighted}
 use Rattle.made_program.specs.declared.draws.Draws.{Draws}
-use Rattle.made_program.specs.declared.draws.Offset.{Offset}
+use Rattle.made_program.specs.declared.draws.DrawnOffset.{DrawnOffset}
 use Rattle.made_program.specs.declared.draws.Reads.{Reads}
 
 -- the state after a draw
@@ -28,7 +28,7 @@ abbrev pub kind_of : ℕ → BodyKind
 kind_of number = if nat_eq number 0 then Mean else (if nat_eq number 1 then Greater else (if nat_eq number 2 then Difference else Weighted))
 
 -- an offset, each part drawn 2 above itself
-abbrev pub offset_of : ℕ → Offset
+abbrev pub offset_of : ℕ → DrawnOffset
 offset_of state = record { dx = drawn 5 state; dy = drawn 5 (after 1 state) }
 
 -- the two reads of image k: the offset of the first one, and source and offset of the second one; the number of the source is even

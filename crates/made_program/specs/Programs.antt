@@ -5,7 +5,7 @@ use Rattle.std.specs.Fmt.{decimal}
 use Rattle.made_program.specs.declared.draws.BodyKind.{BodyKind}
 use Rattle.made_program.specs.declared.draws.BodyKind.TheVariants.{Mean, Greater, Difference, Weighted}
 use Rattle.made_program.specs.declared.draws.Draws.{Draws}
-use Rattle.made_program.specs.declared.draws.Offset.{Offset}
+use Rattle.made_program.specs.declared.draws.DrawnOffset.{DrawnOffset}
 use Rattle.made_program.specs.Draws.{draws_of, after}
 
 -- the width of the frame
@@ -34,7 +34,7 @@ name zero = codes "a"
 name (suc k) = codes "i" ++ decimal (suc k)
 
 -- a read of an image
-abbrev pub read : (image : ℕ) → Offset → List ℕ
+abbrev pub read : (image : ℕ) → DrawnOffset → List ℕ
 read image offset = name image ++ (codes "(x" ++ (step offset.dx ++ (codes ",y" ++ (step offset.dy ++ codes ")"))))
 
 -- the body of a kind over two reads

@@ -18,7 +18,7 @@ pub(crate) enum BodyKind {
 
 // An offset, each part drawn 2 above itself.
 #[derive(Clone, Copy)]
-pub(crate) struct Offset {
+pub(crate) struct DrawnOffset {
     pub(crate) dx: u32,
     pub(crate) dy: u32,
 }
@@ -27,10 +27,10 @@ pub(crate) struct Offset {
 #[derive(Clone, Copy)]
 pub(crate) struct Reads {
     // The offset in the image before.
-    pub(crate) first: Offset,
+    pub(crate) first: DrawnOffset,
     // The image of the second read.
     pub(crate) source: u32,
-    pub(crate) second: Offset,
+    pub(crate) second: DrawnOffset,
 }
 
 // What is drawn for an image.
@@ -68,13 +68,13 @@ fn draw_kind(state: &mut u16) -> BodyKind
 }
 
 // Draws an offset, along the row first.
-fn draw_offset(state: &mut u16) -> Offset
+fn draw_offset(state: &mut u16) -> DrawnOffset
     ensures offset { result ≡ offset_of state.old }
     ensures state { state.new ≡ after 2 state.old }
 {
     let dx = draw(state, 5);
     let dy = draw(state, 5);
-    Offset { dx, dy }
+    DrawnOffset { dx, dy }
 }
 
 // Draws an image before image k, of even number: no inline image has one.

@@ -4,7 +4,7 @@ ghost use Rattle.std.specs.Prelude.{◌≡◌, ◌++◌, OnOk, IfOk, decimal, co
 ghost use Rattle.made_program.specs.declared.draws.BodyKind.TheVariants as kind;
 ghost use Rattle.made_program.specs.Programs.{step, name, read, body};
 
-use crate::draws::{BodyKind, Offset};
+use crate::draws::{BodyKind, DrawnOffset};
 use dk_base::OutOfMemory;
 use itoa::Buffer;
 use std::alloc::Global;
@@ -44,7 +44,7 @@ pub(crate) fn push_name(to: &mut Vec<u8>, image: u32) -> Result<(), OutOfMemory>
 }
 
 // The text of a read.
-pub(crate) fn read(alloc: Global, image: u32, offset: Offset) -> Result<Vec<u8>, OutOfMemory>
+pub(crate) fn read(alloc: Global, image: u32, offset: DrawnOffset) -> Result<Vec<u8>, OutOfMemory>
     ensures { IfOk result (λ text. text.items ≡ read image offset) }
 {
     let mut text = Vec::new(alloc);

@@ -17,7 +17,7 @@ use std::alloc::Global;
 
 // Where an image is in a file: after this many images and this many bytes.
 #[derive(Clone, Copy)]
-pub(crate) struct Place {
+pub(crate) struct FilePosition {
     pub(crate) images: usize,
     pub(crate) offset: usize,
 }
@@ -101,7 +101,7 @@ fn check_samples(
 }
 
 // The header of the image with which the bytes at this place begin.
-fn judge(size: FrameSize, width: u8, place: Place, rest: &[u8]) -> Result<Header, FileFault>
+fn judge(size: FrameSize, width: u8, place: FilePosition, rest: &[u8]) -> Result<Header, FileFault>
     requires width { width ≤ MAX_PORT_WIDTH }
     requires few { place.images < MAX_FILE_IMAGES }
     requires within { place.offset + length rest.now < 2 ^ 63 }
@@ -186,7 +186,7 @@ pub(crate) fn read_image(
     alloc: Global,
     size: FrameSize,
     width: u8,
-    place: Place,
+    place: FilePosition,
     rest: &[u8],
 ) -> Result<ReadImage, FileError>
     requires width { width ≤ MAX_PORT_WIDTH }

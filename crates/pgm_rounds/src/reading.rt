@@ -12,7 +12,7 @@ ghost use Rattle.pgm_rounds.specs.Files.{IsError, frames_of};
 ghost use Rattle.pgm_rounds.specs.Standing.{Stands};
 
 use crate::fault::{FileError, FileFault};
-use crate::image::{Place, read_image};
+use crate::image::{FilePosition, read_image};
 use crate::round::Round;
 use dk_base::{FrameSize, OutOfMemory};
 use dk_frames::Frame;
@@ -23,7 +23,7 @@ use std::alloc::Global;
 pub(crate) struct Reading {
     pub(crate) rounds: Vec<Round>,
     pub(crate) frames: Vec<Frame>,
-    pub(crate) place: Place,
+    pub(crate) place: FilePosition,
 }
 
 impl Reading {
@@ -36,7 +36,7 @@ impl Reading {
         Reading {
             rounds: Vec::new(alloc),
             frames: Vec::new(alloc),
-            place: Place {
+            place: FilePosition {
                 images: 0,
                 offset: 0,
             },
