@@ -9,7 +9,7 @@ use crate::operands::{
     unary_operand,
 };
 use crate::reads::reads_phase;
-use crate::role::{Place, Role};
+use crate::role::{PhaseIndex, Role};
 use dk_types::{TypedExpr, TypedNode, TypedProgram};
 
 // The body of an image, by its number; none if it is an input.
@@ -33,7 +33,7 @@ pub fn has_phase(
     old: &TypedProgram,
     new: &TypedProgram,
     roles: &[Role],
-    at: Place,
+    at: PhaseIndex,
     a: &TypedExpr,
     b: &TypedExpr,
 ) -> bool

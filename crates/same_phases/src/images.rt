@@ -7,7 +7,7 @@ ghost use Rattle.same_phases.specs.Roles.{ArePlayed, HaveRoles, HaveRolesAt, IsP
 use crate::bodies::{body_of, has_phase};
 use crate::columns::column_role;
 use crate::operands::is_number;
-use crate::role::{Place, Role};
+use crate::role::{PhaseIndex, Role};
 use dk_base::OutOfMemory;
 use dk_types::TypedProgram;
 use std::alloc::Global;
@@ -17,7 +17,7 @@ fn is_phase(
     old: &TypedProgram,
     new: &TypedProgram,
     roles: &[Role],
-    at: Place,
+    at: PhaseIndex,
     g: u32,
     h: u32,
 ) -> bool
@@ -77,14 +77,14 @@ fn is_named_frame(program: &TypedProgram, image: u32) -> bool {
 }
 
 // The image and the phase that come after n images of phases, in order.
-fn place_after(n: u32, phases: u32) -> (u32, Place)
+fn place_after(n: u32, phases: u32) -> (u32, PhaseIndex)
     requires { 2 ≤ phases }
     ensures phases { result.1.phases ≡ phases }
     ensures below { result.1.phase < phases }
 {
     (
         n / phases,
-        Place {
+        PhaseIndex {
             phases,
             phase: n % phases,
         },

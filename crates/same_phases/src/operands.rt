@@ -39,13 +39,7 @@ pub fn binary_operands(e: &TypedExpr, op: Binary) -> Option<(&TypedExpr, &TypedE
         ≡ double e.now.ty op (typed_of p.0.now) (typed_of p.1.now)) }
 {
     match &e.node {
-        TypedNode::Binary(its, left, right) => {
-            if *its == op {
-                Some((left, right))
-            } else {
-                None
-            }
-        }
+        TypedNode::Binary(its, left, right) if *its == op => Some((left, right)),
         _ => None,
     }
 }
@@ -54,13 +48,7 @@ pub fn scaled_operand(e: &TypedExpr, op: Scaling, by: u64) -> Option<&TypedExpr>
     ensures { IfSome result (λ a. typed_of e.now ≡ scaled e.now.ty op (typed_of a.now) by) }
 {
     match &e.node {
-        TypedNode::Scale(its, operand, number) => {
-            if *its == op && *number == by {
-                Some(operand)
-            } else {
-                None
-            }
-        }
+        TypedNode::Scale(its, operand, number) if *its == op && *number == by => Some(operand),
         _ => None,
     }
 }
@@ -69,13 +57,7 @@ pub fn converted_operand(e: &TypedExpr, how: Conversion, ty: Ty) -> Option<&Type
     ensures { IfSome result (λ a. typed_of e.now ≡ converted ty how (typed_of a.now)) }
 {
     match &e.node {
-        TypedNode::Convert(its, operand) => {
-            if *its == how && e.ty == ty {
-                Some(operand)
-            } else {
-                None
-            }
-        }
+        TypedNode::Convert(its, operand) if *its == how && e.ty == ty => Some(operand),
         _ => None,
     }
 }

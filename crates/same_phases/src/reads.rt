@@ -4,7 +4,7 @@ ghost use Rattle.std.specs.Prelude.{◌≡◌, ◌≤◌, ◌<◌, ◌+ℤ◌, �
 ghost use Rattle.dk_types.specs.Typed.{typing_of};
 ghost use Rattle.same_phases.specs.Roles.{HaveRolesAt, IsBrought, IsColumn, IsMovedColumn, IsOnePhase, IsPhase, ReadsPhase, StaysInPhase};
 
-use crate::role::{Place, Role, role_of};
+use crate::role::{PhaseIndex, Role, role_of};
 use dk_types::{TypedProgram, TypedRead};
 
 // The column of this phase, q groups of columns to the right of the group at the point.
@@ -50,7 +50,7 @@ pub fn stays_in_phase(phases: u32, q: i32, phase: u32) -> bool
 }
 
 // Whether the old program's read by dx columns from a phase is at the new one's column.
-fn is_at_column(at: Place, dx: i32, q: i32, phase: u32) -> bool
+fn is_at_column(at: PhaseIndex, dx: i32, q: i32, phase: u32) -> bool
     requires { at.phases ≤ 8 }
     ensures { IsTrue result → IsMovedColumn at.phases phase q at.phase dx }
 {
@@ -61,7 +61,7 @@ fn is_at_column(at: Place, dx: i32, q: i32, phase: u32) -> bool
 fn reads_phase_of(
     old: &TypedProgram,
     new: &TypedProgram,
-    at: Place,
+    at: PhaseIndex,
     phase: u32,
     a: TypedRead,
     b: TypedRead,
@@ -94,7 +94,7 @@ fn reads_phase_of(
 fn reads_column_of(
     old: &TypedProgram,
     new: &TypedProgram,
-    at: Place,
+    at: PhaseIndex,
     column: i64,
     a: TypedRead,
     b: TypedRead,
@@ -125,7 +125,7 @@ pub fn reads_phase(
     old: &TypedProgram,
     new: &TypedProgram,
     roles: &[Role],
-    at: Place,
+    at: PhaseIndex,
     a: TypedRead,
     b: TypedRead,
 ) -> bool

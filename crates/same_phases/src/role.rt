@@ -26,7 +26,7 @@ impl Role {
 
 // One of the phases.
 #[derive(Clone, Copy)]
-pub struct Place {
+pub struct PhaseIndex {
     pub phases: u32,
     pub phase: u32,
 }

@@ -32,13 +32,8 @@ pub fn read_image(e: &Expr, edge: Edge, dx: i32, dy: i32) -> Option<u32>
     ensures { IfSome result (λ g. tree_of e.now ≡ read edge g dx dy) }
 {
     match e {
-        Expr::Read(its, image, across, down) => {
-            if *its == edge && *across == dx && *down == dy {
-                Some(*image)
-            } else {
-                None
-            }
-        }
+        Expr::Read(its, image, across, down) if *its == edge && *across == dx && *down == dy =>
+            Some(*image),
         _ => None,
     }
 }
@@ -48,13 +43,8 @@ pub fn shifted_body(e: &Expr, edge: Edge, dx: i32, dy: i32) -> Option<&Expr>
     ensures { IfSome result (λ a. tree_of e.now ≡ shifted edge dx dy (tree_of a.now)) }
 {
     match e {
-        Expr::Shifted(its, across, down, body) => {
-            if *its == edge && *across == dx && *down == dy {
-                Some(body)
-            } else {
-                None
-            }
-        }
+        Expr::Shifted(its, across, down, body) if *its == edge && *across == dx && *down == dy =>
+            Some(body),
         _ => None,
     }
 }
@@ -72,13 +62,7 @@ pub fn binary_operands(e: &Expr, op: Binary) -> Option<(&Expr, &Expr)>
     ensures { IfSome result (λ p. tree_of e.now ≡ binary op (tree_of p.0.now) (tree_of p.1.now)) }
 {
     match e {
-        Expr::Binary(its, left, right) => {
-            if *its == op {
-                Some((left, right))
-            } else {
-                None
-            }
-        }
+        Expr::Binary(its, left, right) if *its == op => Some((left, right)),
         _ => None,
     }
 }
@@ -96,13 +80,7 @@ pub fn converted_operand(e: &Expr, how: Conversion, ty: Ty) -> Option<&Expr>
     ensures { IfSome result (λ a. tree_of e.now ≡ convert how (tree_of a.now) ty) }
 {
     match e {
-        Expr::Convert(its, operand, to) => {
-            if *its == how && *to == ty {
-                Some(operand)
-            } else {
-                None
-            }
-        }
+        Expr::Convert(its, operand, to) if *its == how && *to == ty => Some(operand),
         _ => None,
     }
 }
@@ -111,13 +89,7 @@ pub fn scaled_operand(e: &Expr, op: Scaling, by: u64) -> Option<&Expr>
     ensures { IfSome result (λ a. tree_of e.now ≡ scale op (tree_of a.now) by) }
 {
     match e {
-        Expr::Scale(its, operand, number) => {
-            if *its == op && *number == by {
-                Some(operand)
-            } else {
-                None
-            }
-        }
+        Expr::Scale(its, operand, number) if *its == op && *number == by => Some(operand),
         _ => None,
     }
 }
