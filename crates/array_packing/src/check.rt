@@ -183,15 +183,13 @@ fn is_read_at(
 fn is_assigned(m: &Netlist, added: Added, slots: &[Slot], place: usize, assign: &Assign) -> bool
     ensures { IsTrue result → IsAssigned (netlist_of m.now) slots.now assign.now.target assign.now.right }
 {
-    match &assign.right {
-        Right::Word(array, index) => {
-            let Some(slot) = slots.get(*array) else {
-                return false;
-            };
-            is_read_at(m, added, place, *slot, index, assign.target)
-        }
-        _ => has_assign(&m.assigns, place, assign.target, &assign.right),
-    }
+    let Right::Word(array, index) = &assign.right else {
+        return has_assign(&m.assigns, place, assign.target, &assign.right);
+    };
+    let Some(slot) = slots.get(*array) else {
+        return false;
+    };
+    is_read_at(m, added, place, *slot, index, assign.target)
 }
 
 // Whether each of the assigns is.
@@ -387,14 +385,14 @@ fn are_puts_of(m: &Netlist, slots: &[Slot], places: &[usize], updates: &[Update]
 
 // Where the new netlist should have what the old one has, and the other way round: of each old update the new one, of each new assign that reads a word an old one that does, of each new put an old one. Nothing is claimed of it.
 #[derive(Debug, Drop)]
-pub(crate) struct Hints {
+pub(crate) struct PackingHints {
     pub updates: Vec<usize>,
     pub reads: Vec<usize>,
     pub puts: Vec<usize>,
 }
 
 // Whether a netlist is another one with its arrays packed by these slots.
-pub(crate) fn is_packed(new: &Netlist, old: &Netlist, slots: &[Slot], hints: &Hints) -> bool
+pub(crate) fn is_packed(new: &Netlist, old: &Netlist, slots: &[Slot], hints: &PackingHints) -> bool
     ensures { IsTrue result → IsPacked (netlist_of new.now) (netlist_of old.now) slots.now }
 {
     let added = Added {

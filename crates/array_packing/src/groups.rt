@@ -29,7 +29,7 @@ pub(crate) struct Column {
 
 // How the arrays of a netlist are used and packed.
 #[derive(Debug, Drop)]
-pub(crate) struct Plan {
+pub(crate) struct PackingPlan {
     pub uses: Vec<Use>,
     pub columns: Vec<Column>,
     pub slots: Vec<Slot>,
@@ -127,21 +127,23 @@ impl Groups {
 
 fn note_reads(uses: &mut [Use], m: &Netlist) {
     for (place, assign) in m.assigns.iter().enumerate() {
-        if let Right::Word(array, _) = &assign.right {
-            if let Some(found) = uses.get_mut(*array) {
-                found.read = place;
-                found.reads = found.reads.saturating_add(1);
-            }
+        let Right::Word(array, _) = &assign.right else {
+            continue;
+        };
+        if let Some(found) = uses.get_mut(*array) {
+            found.read = place;
+            found.reads = found.reads.saturating_add(1);
         }
     }
 }
 
 fn note_puts(uses: &mut [Use], m: &Netlist) {
     for (place, update) in m.updates.iter().enumerate() {
-        if let Update::Put(array, _, _) = update {
-            if let Some(found) = uses.get_mut(*array) {
-                found.put = place;
-            }
+        let Update::Put(array, _, _) = update else {
+            continue;
+        };
+        if let Some(found) = uses.get_mut(*array) {
+            found.put = place;
         }
     }
 }
@@ -226,14 +228,28 @@ fn group_of_each(
     };
     let mut of = vec![in alloc; 0; m.arrays.len()]?;
     for (_, array) in widest_first(alloc, m)? {
-        if let (Some(used), Some(shape)) = (uses.get(array), m.arrays.get(array)) {
-            let group = group_of(&mut groups, m, *used, shape, least)?;
-            if let Some(place) = of.get_mut(array) {
-                *place = group;
-            }
+        let (Some(used), Some(shape)) = (uses.get(array), m.arrays.get(array)) else {
+            continue;
+        };
+        let group = group_of(&mut groups, m, *used, shape, least)?;
+        if let Some(place) = of.get_mut(array) {
+            *place = group;
         }
     }
     Ok(of)
+}
+
+// Adds an array of this width above those that the column has.
+fn widen_column(columns: &mut [Column], number: usize, width: u8) -> Option<Slot> {
+    let column = columns.get_mut(number)?;
+    let low = column.bits as u64;
+    column.bits = column.bits.saturating_add(width);
+    column.parts = column.parts.saturating_add(1);
+    Some(Slot {
+        array: number,
+        low,
+        width,
+    })
 }
 
 // Adds an array to the column of its group, which is a new one for the first array.
@@ -245,15 +261,8 @@ fn add_part(
 ) -> Result<Slot, OutOfMemory> {
     let width = shape.width.bits();
     if let Some(number) = column {
-        if let Some(found) = columns.get_mut(number) {
-            let low = found.bits as u64;
-            found.bits = found.bits.saturating_add(width);
-            found.parts = found.parts.saturating_add(1);
-            return Ok(Slot {
-                array: number,
-                low,
-                width,
-            });
+        if let Some(slot) = widen_column(columns, number, width) {
+            return Ok(slot);
         }
     }
     let number = columns.len();
@@ -272,7 +281,12 @@ fn add_part(
 }
 
 // Fills the columns and the slots, both in the order of the arrays.
-fn add_parts(alloc: Global, m: &Netlist, of: &[usize], plan: &mut Plan) -> Result<(), OutOfMemory> {
+fn add_parts(
+    alloc: Global,
+    m: &Netlist,
+    of: &[usize],
+    plan: &mut PackingPlan,
+) -> Result<(), OutOfMemory> {
     let mut columns = vec![in alloc; None; m.arrays.len()]?;
     for (array, shape) in m.arrays.iter().enumerate() {
         let group = of.get(array).copied().unwrap_or(0);
@@ -298,10 +312,10 @@ fn number_wires(columns: &mut [Column], first: usize) {
 }
 
 // The plan for arrays of at least `least` words.
-pub(crate) fn plan_of(alloc: Global, m: &Netlist, least: u32) -> Result<Plan, OutOfMemory> {
+pub(crate) fn plan_of(alloc: Global, m: &Netlist, least: u32) -> Result<PackingPlan, OutOfMemory> {
     let uses = uses_of(alloc, m)?;
     let of = group_of_each(alloc, m, &uses, least)?;
-    let mut plan = Plan {
+    let mut plan = PackingPlan {
         uses,
         columns: Vec::new(alloc),
         slots: Vec::new(alloc),

@@ -5,7 +5,7 @@ ghost use Rattle.net_build.specs.Naming.{names_for};
 ghost use Rattle.module_pass.specs.Words.{word_bits};
 ghost use Rattle.array_packing.specs.Packing.{IsPacked, AreFilled, AreAccessedOnce, IsPacking};
 
-use crate::check::{Hints, is_packed};
+use crate::check::{PackingHints, is_packed};
 use crate::filled::are_filled;
 use crate::once::are_accessed_once;
 use crate::proposal::propose;
@@ -24,7 +24,7 @@ pub struct Packed {
 }
 
 // Whether the netlist of the module is that of the other one with its arrays packed by these slots.
-fn is_packed_module(new: &Module, old: &Module, slots: &[Slot], hints: &Hints) -> bool
+fn is_packed_module(new: &Module, old: &Module, slots: &[Slot], hints: &PackingHints) -> bool
     ensures { IsTrue result → IsPacked new.now.netlist old.now.netlist slots.now }
 {
     is_packed(new.wiring(), old.wiring(), slots, hints)
@@ -52,7 +52,7 @@ fn is_packing(
     new: &Module,
     old: &Module,
     slots: &[Slot],
-    hints: &Hints,
+    hints: &PackingHints,
 ) -> Result<bool, OutOfMemory>
     ensures { IfOk result (λ is. IsTrue is → IsPacking new.now.netlist old.now.netlist slots.now) }
 {

@@ -1,7 +1,7 @@
 // A netlist with packed arrays. Nothing is claimed of it: it is tested.
 
-use crate::check::Hints;
-use crate::groups::{Column, Plan, plan_of, put_of, read_index};
+use crate::check::PackingHints;
+use crate::groups::{Column, PackingPlan, plan_of, put_of, read_index};
 use crate::slots::Slot;
 use dk_base::OutOfMemory;
 use std::alloc::Global;
@@ -9,10 +9,10 @@ use wiring::{Assign, Atom, Net, Netlist, Right, Shape, Update, Width};
 
 // A packed netlist, with what its test needs.
 #[derive(Debug, Drop)]
-pub(crate) struct Proposal {
+pub(crate) struct PackingProposal {
     pub netlist: Netlist,
     pub slots: Vec<Slot>,
-    pub hints: Hints,
+    pub hints: PackingHints,
 }
 
 // The value that is put into a column so far, and its width.
@@ -22,7 +22,7 @@ struct Joined {
     bits: u8,
 }
 
-impl Plan {
+impl PackingPlan {
     fn column(&self, array: usize) -> Option<Column> {
         let slot = self.slots.get(array)?;
         self.columns.get(slot.array).copied()
@@ -65,7 +65,7 @@ impl Plan {
     }
 }
 
-impl Proposal {
+impl PackingProposal {
     // Adds a wire with the assign that drives it.
     fn add_wire(
         &mut self,
@@ -93,7 +93,7 @@ impl Proposal {
     }
 
     // The assigns of the old netlist, in their order.
-    fn add_assigns(&mut self, old: &Netlist, plan: &Plan) -> Result<(), OutOfMemory> {
+    fn add_assigns(&mut self, old: &Netlist, plan: &PackingPlan) -> Result<(), OutOfMemory> {
         for (place, assign) in old.assigns.iter().enumerate() {
             let target = assign.target;
             let right = plan.packed_right(&assign.right);
@@ -104,12 +104,13 @@ impl Proposal {
     }
 
     // A wire for the word of each column of several parts.
-    fn add_words(&mut self, old: &Netlist, plan: &Plan) -> Result<(), OutOfMemory> {
+    fn add_words(&mut self, old: &Netlist, plan: &PackingPlan) -> Result<(), OutOfMemory> {
         for (number, column) in plan.columns.iter().enumerate() {
-            if column.parts > 1 {
-                if let Some((index, source)) = plan.read_index(old, *column) {
-                    let _ = self.add_wire(column.bits, Right::Word(number, index), source)?;
-                }
+            if column.parts < 2 {
+                continue;
+            }
+            if let Some((index, source)) = plan.read_index(old, *column) {
+                let _ = self.add_wire(column.bits, Right::Word(number, index), source)?;
             }
         }
         Ok(())
@@ -126,21 +127,17 @@ impl Proposal {
         Ok(())
     }
 
-    fn add_hints(&mut self, old: &Netlist, plan: &Plan) -> Result<(), OutOfMemory> {
+    fn add_hints(&mut self, old: &Netlist, plan: &PackingPlan) -> Result<(), OutOfMemory> {
         let sets = self.netlist.updates.len();
         let mut set: usize = 0;
         for update in old.updates.iter() {
-            let place = match update {
-                Update::Set(_, _) => {
-                    set = set.saturating_add(1);
-                    set.saturating_sub(1)
-                }
-                Update::Put(array, _, _) => {
-                    let column = plan.slots.get(*array).map(|slot| slot.array).unwrap_or(0);
-                    sets.saturating_add(column)
-                }
-            };
-            self.hints.updates.push(place)?;
+            if let Update::Put(array, _, _) = update {
+                let column = plan.slots.get(*array).map(|slot| slot.array).unwrap_or(0);
+                self.hints.updates.push(sets.saturating_add(column))?;
+            } else {
+                self.hints.updates.push(set)?;
+                set = set.saturating_add(1);
+            }
         }
         Ok(())
     }
@@ -168,16 +165,17 @@ impl Proposal {
         &mut self,
         alloc: Global,
         old: &Netlist,
-        plan: &Plan,
+        plan: &PackingPlan,
     ) -> Result<Vec<Option<Joined>>, OutOfMemory> {
         let mut joined = vec![in alloc; None; plan.columns.len()]?;
         for (array, slot) in plan.slots.iter().enumerate() {
-            if let Some(value) = plan.put_value(old, array) {
-                let below = joined.get(slot.array).copied().flatten();
-                let whole = self.join(below, value, slot.width)?;
-                if let Some(place) = joined.get_mut(slot.array) {
-                    *place = Some(whole);
-                }
+            let Some(value) = plan.put_value(old, array) else {
+                continue;
+            };
+            let below = joined.get(slot.array).copied().flatten();
+            let whole = self.join(below, value, slot.width)?;
+            if let Some(place) = joined.get_mut(slot.array) {
+                *place = Some(whole);
             }
         }
         Ok(joined)
@@ -187,7 +185,7 @@ impl Proposal {
     fn add_puts(
         &mut self,
         old: &Netlist,
-        plan: &Plan,
+        plan: &PackingPlan,
         values: &[Option<Joined>],
     ) -> Result<(), OutOfMemory> {
         for (number, column) in plan.columns.iter().enumerate() {
@@ -211,8 +209,8 @@ fn copied(alloc: Global, widths: &[Width]) -> Result<Vec<Width>, OutOfMemory> {
 }
 
 // The nets of the netlist, with no arrays and nothing that drives them.
-fn begun(alloc: Global, old: &Netlist) -> Result<Proposal, OutOfMemory> {
-    Ok(Proposal {
+fn begun(alloc: Global, old: &Netlist) -> Result<PackingProposal, OutOfMemory> {
+    Ok(PackingProposal {
         netlist: Netlist {
             enable: old.enable,
             inputs: copied(alloc, &old.inputs)?,
@@ -224,7 +222,7 @@ fn begun(alloc: Global, old: &Netlist) -> Result<Proposal, OutOfMemory> {
             updates: Vec::new(alloc),
         },
         slots: Vec::new(alloc),
-        hints: Hints {
+        hints: PackingHints {
             updates: Vec::new(alloc),
             reads: Vec::new(alloc),
             puts: Vec::new(alloc),
@@ -237,7 +235,7 @@ pub(crate) fn propose(
     alloc: Global,
     old: &Netlist,
     least: u32,
-) -> Result<Option<Proposal>, OutOfMemory> {
+) -> Result<Option<PackingProposal>, OutOfMemory> {
     let plan = plan_of(alloc, old, least)?;
     if plan.columns.len() == old.arrays.len() {
         return Ok(None);

@@ -5,7 +5,7 @@ ghost use Rattle.batch_rows.specs.Code.{AreSound, IsOrdered};
 ghost use Rattle.batch_guess.specs.Engine.{IsEngine};
 
 use crate::stored::Stored;
-use batch_plan::{Plan, Written};
+use batch_plan::{BatchPlan, WriteForm};
 use batch_rows::{BatchCode, WordPut, first_uses, sizes_of};
 use lane_rows::Size;
 use netlist::Netlist;
@@ -16,7 +16,7 @@ use wiring::{Atom, Right};
 #[derive(Drop)]
 pub struct Engine {
     pub code: BatchCode,
-    pub plan: Plan,
+    pub plan: BatchPlan,
     /// For each slot the first instruction that uses it.
     pub uses: Vec<usize>,
     /// The lane in which each instruction is run.
@@ -30,8 +30,8 @@ pub struct Engine {
 
 // An array that is read and written clock by clock.
 #[derive(Clone, Copy)]
-pub(crate) struct Access {
-    pub(crate) written: Written,
+pub(crate) struct WrittenArray {
+    pub(crate) written: WriteForm,
     // The slot of what is read, and the index.
     pub(crate) target: usize,
     pub(crate) read: Atom<usize>,
@@ -62,7 +62,7 @@ impl Engine {
     pub fn new(
         alloc: Global,
         code: BatchCode,
-        plan: Plan,
+        plan: BatchPlan,
         wiring: &Netlist,
         ports: usize,
     ) -> Result<Engine, AllocError>
@@ -93,16 +93,12 @@ impl Engine {
 
     // The right side by which an atom is made.
     fn right_of(&self, a: &Atom<usize>) -> Option<Right<usize, usize>> {
-        match a {
-            Atom::Net(slot) => match self.makers.get(*slot) {
-                Some(Some(maker)) => match self.code.instructions.get(*maker) {
-                    Some(instruction) => Some(instruction.right),
-                    None => None,
-                },
-                Some(None) | None => None,
-            },
-            Atom::Constant(_) => None,
-        }
+        let Atom::Net(slot) = a else {
+            return None;
+        };
+        let maker = self.makers.get(*slot)?;
+        let instruction = self.code.instructions.get((*maker)?)?;
+        Some(instruction.right)
     }
 
     // The right side by which the next value of a register is made.
@@ -125,11 +121,11 @@ impl Engine {
         &self,
         stored: &Stored,
         array: usize,
-        written: Written,
-    ) -> Option<Access> {
+        written: WriteForm,
+    ) -> Option<WrittenArray> {
         let read = self.code.reads.get(array)?;
         let put = *self.code.puts.get(array)?;
-        let mut access = Access {
+        let mut access = WrittenArray {
             written,
             target: read.target,
             read: read.index,
@@ -137,7 +133,7 @@ impl Engine {
             choice: None,
             copy: 0,
         };
-        if written != Written::Put {
+        if written != WriteForm::Put {
             let choice = self.right_of(&put.value)?;
             access.copy = self.kept(stored, &choice);
             access.choice = Some(choice);

@@ -2,8 +2,8 @@
 // would keep LLVM from making vector code.
 
 use crate::hints::Habit;
-use crate::sources::Source;
-use batch_plan::Written;
+use crate::sources::ValueSource;
+use batch_plan::WriteForm;
 use lane_rows::{Lane, Row};
 
 // Numbers from a first one on, which go on as those of a register do.
@@ -37,15 +37,15 @@ fn fill_row<L: Lane>(to: &mut [L], row: &Row) {
 }
 
 // The values of a source.
-fn fill_source<L: Lane>(to: &mut [L], source: Source<'_>) {
+fn fill_source<L: Lane>(to: &mut [L], source: ValueSource<'_>) {
     match source {
-        Source::Row(row) => fill_row(to, row),
-        Source::Number(value) => fill_same(to, value),
+        ValueSource::Row(row) => fill_row(to, row),
+        ValueSource::Number(value) => fill_same(to, value),
     }
 }
 
 // The contents of a register, and then the values of a source, one clock later.
-pub(crate) fn fill_shift<L: Lane>(to: &mut [L], source: Source<'_>, stored: u64) {
+pub(crate) fn fill_shift<L: Lane>(to: &mut [L], source: ValueSource<'_>, stored: u64) {
     let (first, later) = to.split_at_mut(to.len().min(1));
     fill_same(first, stored);
     fill_source(later, source);
@@ -81,21 +81,21 @@ fn read_row<L: Lane>(to: &mut [L], index: &Row, words: &[u64]) {
 }
 
 // What is read of words that stay as they are.
-pub(crate) fn fill_read<L: Lane>(to: &mut [L], index: Source<'_>, words: &[u64]) {
+pub(crate) fn fill_read<L: Lane>(to: &mut [L], index: ValueSource<'_>, words: &[u64]) {
     match index {
-        Source::Row(index) => read_row(to, index, words),
-        Source::Number(index) => fill_same(to, word_at(words, index)),
+        ValueSource::Row(index) => read_row(to, index, words),
+        ValueSource::Number(index) => fill_same(to, word_at(words, index)),
     }
 }
 
 // How an array is read and written: at each clock its word at `read`, and then `value` is put at `index` where `bit` is 1.
 #[derive(Clone, Copy)]
 pub(crate) struct Writes<'a> {
-    pub(crate) written: Written,
-    pub(crate) read: Source<'a>,
-    pub(crate) index: Source<'a>,
-    pub(crate) bit: Source<'a>,
-    pub(crate) value: Source<'a>,
+    pub(crate) written: WriteForm,
+    pub(crate) read: ValueSource<'a>,
+    pub(crate) index: ValueSource<'a>,
+    pub(crate) bit: ValueSource<'a>,
+    pub(crate) value: ValueSource<'a>,
     // What a copying register stores before the batch.
     pub(crate) copy: u64,
 }
@@ -209,31 +209,30 @@ fn copy_of<L: Lane>(to: &mut [L], writes: &Writes<'_>, words: &mut [u64]) {
 // What is read of words of which one is put at each clock: a value where a bit is 1, else what was read when the bit was 1 last, at
 // first the contents of the copying register.
 fn fill_copy<L: Lane>(to: &mut [L], writes: &Writes<'_>, words: &mut [u64]) {
-    match (
+    let (Some(read), Some(index), Some(bit), Some(value)) = (
         writes.read.numbers(),
         writes.index.numbers(),
         writes.bit.numbers(),
         writes.value.numbers(),
-    ) {
-        (Some(read), Some(index), Some(bit), Some(value)) => {
-            let rows = CopyRows {
-                read,
-                index,
-                bit,
-                value,
-            };
-            copy_in(to, &rows, words, writes.copy);
-        }
-        _ => copy_of(to, writes, words),
-    }
+    ) else {
+        copy_of(to, writes, words);
+        return;
+    };
+    let rows = CopyRows {
+        read,
+        index,
+        bit,
+        value,
+    };
+    copy_in(to, &rows, words, writes.copy);
 }
 
 // What is read of words that are written clock by clock.
 pub(crate) fn fill_written<L: Lane>(to: &mut [L], writes: &Writes<'_>, words: &mut [u64]) {
     match writes.written {
-        Written::Put => fill_put(to, writes, words),
-        Written::Choice => fill_choice(to, writes, words),
-        Written::Copy => fill_copy(to, writes, words),
+        WriteForm::Put => fill_put(to, writes, words),
+        WriteForm::Choice => fill_choice(to, writes, words),
+        WriteForm::Copy => fill_copy(to, writes, words),
     }
 }
 
@@ -254,7 +253,7 @@ fn load_in<L: Lane>(to: &mut [L], bit: &[u16], value: &[L], stored: u64) {
     keep_where(to, bit);
 }
 
-fn load_of<L: Lane>(to: &mut [L], bit: Source<'_>, value: Source<'_>, stored: u64) {
+fn load_of<L: Lane>(to: &mut [L], bit: ValueSource<'_>, value: ValueSource<'_>, stored: u64) {
     let mut number = stored;
     for t in 0..to.len() {
         to[t] = L::cut(number);
@@ -265,7 +264,12 @@ fn load_of<L: Lane>(to: &mut [L], bit: Source<'_>, value: Source<'_>, stored: u6
 }
 
 // The contents of a register, and then what a source has one clock later where a bit is 1, else the number before.
-pub(crate) fn fill_load<L: Lane>(to: &mut [L], bit: Source<'_>, value: Source<'_>, stored: u64) {
+pub(crate) fn fill_load<L: Lane>(
+    to: &mut [L],
+    bit: ValueSource<'_>,
+    value: ValueSource<'_>,
+    stored: u64,
+) {
     match (bit.numbers(), value.numbers()) {
         (Some(bit), Some(value)) => load_in(to, bit, value, stored),
         _ => load_of(to, bit, value, stored),
@@ -363,7 +367,7 @@ pub(crate) fn count_steps(to: &mut [u16], bits: &[u16]) {
 // The first this many places of a row, and then a line, of which a row counts the steps, if it does not take one in each clock.
 pub(crate) fn fill_line<L: Lane>(
     to: &mut [L],
-    row: Source<'_>,
+    row: ValueSource<'_>,
     first: usize,
     line: Line,
     steps: Option<&[u16]>,
@@ -444,7 +448,7 @@ fn apart_in<L: Lane>(row: &[L], next: &[L], count: usize) -> usize {
     }
 }
 
-fn apart_of(row: Source<'_>, next: Source<'_>, count: usize) -> usize {
+fn apart_of(row: ValueSource<'_>, next: ValueSource<'_>, count: usize) -> usize {
     for t in 0..count {
         if row.at(t.saturating_add(1)) != next.at(t) {
             return t;
@@ -454,15 +458,15 @@ fn apart_of(row: Source<'_>, next: Source<'_>, count: usize) -> usize {
 }
 
 // In the row's own lane where the other one has it too, else number by number.
-fn apart_from<L: Lane>(row: &[L], whole: &Row, next: Source<'_>, count: usize) -> usize {
+fn apart_from<L: Lane>(row: &[L], whole: &Row, next: ValueSource<'_>, count: usize) -> usize {
     match next.numbers() {
         Some(next) => apart_in(row, next, count),
-        None => apart_of(Source::Row(whole), next, count),
+        None => apart_of(ValueSource::Row(whole), next, count),
     }
 }
 
 // The first of `count` clocks at which a row is not a source, one clock later.
-pub(crate) fn first_apart(row: &Row, next: Source<'_>, count: usize) -> usize {
+pub(crate) fn first_apart(row: &Row, next: ValueSource<'_>, count: usize) -> usize {
     match row {
         Row::Narrow(numbers) => apart_from(numbers, row, next, count),
         Row::Middle(numbers) => apart_from(numbers, row, next, count),

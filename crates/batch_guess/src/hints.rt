@@ -20,7 +20,7 @@ pub struct Habit {
 
 // A register's value in a clock, the right one in the next clock, and the one that was guessed there.
 #[derive(Clone, Copy)]
-pub(crate) struct Change {
+pub(crate) struct ValueChange {
     pub(crate) clock: usize,
     pub(crate) value: u64,
     pub(crate) next: u64,
@@ -91,7 +91,7 @@ impl Hints {
     }
 
     // For how many clocks a register kept a value, up to the clock in which it changes. Where none is known, as before.
-    fn stay_of(&self, habit: Habit, change: Change) -> usize {
+    fn stay_of(&self, habit: Habit, change: ValueChange) -> usize {
         match habit.since {
             Some(since) if change.guessed == change.value => {
                 let upto = self.counted(habit.waits, change.clock.saturating_add(1));
@@ -102,7 +102,7 @@ impl Hints {
     }
 
     // The line that a register takes after a wrong guess.
-    pub(crate) fn go_on(&mut self, register: usize, change: Change) -> Option<Line> {
+    pub(crate) fn go_on(&mut self, register: usize, change: ValueChange) -> Option<Line> {
         let mut habit = *self.habits.get(register)?;
         if change.next == change.value {
             habit.stay = usize::MAX;

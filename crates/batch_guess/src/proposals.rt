@@ -2,13 +2,13 @@
 
 ghost use Rattle.batch_guess.specs.Table.{IsRefilled};
 
-use crate::engine::{Access, Engine};
+use crate::engine::{Engine, WrittenArray};
 use crate::fill::{
     Line, Writes, fill_dins, fill_enable, fill_line, fill_load, fill_read, fill_same, fill_shift,
     fill_written,
 };
 use crate::inputs::Piece;
-use crate::sources::{Source, source_of, source_of_slot};
+use crate::sources::{ValueSource, source_of, source_of_slot};
 use crate::table::Table;
 use lane_rows::{Lane, Row, Size, lane_in};
 use wiring::{Atom, Right};
@@ -18,7 +18,7 @@ pub(crate) const ENABLE: usize = 1;
 
 // What a spare row becomes.
 #[derive(Clone, Copy)]
-pub(crate) enum Proposal<'a> {
+pub(crate) enum RowProposal<'a> {
     // The contents of a register, and then its next value, one clock later.
     Shift {
         next: Atom<usize>,
@@ -50,12 +50,12 @@ fn fill_chosen<L: Lane>(to: &mut [L], rows: &[Row], choice: &Right<usize, usize>
     }
 }
 
-fn fill<L: Lane>(to: &mut [L], rows: &[Row], proposal: &Proposal<'_>) {
+fn fill<L: Lane>(to: &mut [L], rows: &[Row], proposal: &RowProposal<'_>) {
     match proposal {
-        Proposal::Shift { next, stored } => fill_shift(to, source_of(rows, next), *stored),
-        Proposal::Read { index, words } => fill_read(to, source_of(rows, index), words),
-        Proposal::Load { choice, stored } => fill_chosen(to, rows, choice, *stored),
-        Proposal::Line {
+        RowProposal::Shift { next, stored } => fill_shift(to, source_of(rows, next), *stored),
+        RowProposal::Read { index, words } => fill_read(to, source_of(rows, index), words),
+        RowProposal::Load { choice, stored } => fill_chosen(to, rows, choice, *stored),
+        RowProposal::Line {
             slot,
             first,
             line,
@@ -65,7 +65,7 @@ fn fill<L: Lane>(to: &mut [L], rows: &[Row], proposal: &Proposal<'_>) {
 }
 
 // The spare row in the lane of a slot becomes a proposal.
-pub(crate) fn propose_row(table: &mut Table, slot: usize, proposal: &Proposal<'_>)
+pub(crate) fn propose_row(table: &mut Table, slot: usize, proposal: &RowProposal<'_>)
     ensures { IsRefilled table.old table.new }
 {
     match lane_in(&table.rows, slot) {
@@ -102,15 +102,15 @@ pub(crate) fn propose_input(table: &mut Table, engine: &Engine, piece: &Piece<'_
 }
 
 // The bit by which a value is put into an array, and the value. By its put, a value is put at each clock.
-fn put_sources<'a>(rows: &'a [Row], access: &Access) -> (Source<'a>, Source<'a>) {
+fn put_sources<'a>(rows: &'a [Row], access: &WrittenArray) -> (ValueSource<'a>, ValueSource<'a>) {
     if let Some(Right::Choose(bit, value, _)) = &access.choice {
         (source_of(rows, bit), source_of(rows, value))
     } else {
-        (Source::Number(1), source_of(rows, &access.put.value))
+        (ValueSource::Number(1), source_of(rows, &access.put.value))
     }
 }
 
-fn fill_access<L: Lane>(to: &mut [L], rows: &[Row], access: &Access, words: &mut [u64]) {
+fn fill_access<L: Lane>(to: &mut [L], rows: &[Row], access: &WrittenArray, words: &mut [u64]) {
     let (bit, value) = put_sources(rows, access);
     let writes = Writes {
         written: access.written,
@@ -124,7 +124,7 @@ fn fill_access<L: Lane>(to: &mut [L], rows: &[Row], access: &Access, words: &mut
 }
 
 // The spare row in the lane of what is read becomes that of words that are written clock by clock.
-pub(crate) fn propose_access(table: &mut Table, access: &Access, words: &mut [u64])
+pub(crate) fn propose_access(table: &mut Table, access: &WrittenArray, words: &mut [u64])
     ensures { IsRefilled table.old table.new }
 {
     match lane_in(&table.rows, access.target) {

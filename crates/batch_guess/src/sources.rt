@@ -14,39 +14,39 @@ fn place_in(row: &Row, t: usize) -> u64 {
 
 // Where a value comes from: from a row, at each clock its number, or from a number, the same at all clocks.
 #[derive(Clone, Copy)]
-pub(crate) enum Source<'a> {
+pub(crate) enum ValueSource<'a> {
     Row(&'a Row),
     Number(u64),
 }
 
-pub(crate) fn source_of_slot(rows: &[Row], slot: usize) -> Source<'_> {
+pub(crate) fn source_of_slot(rows: &[Row], slot: usize) -> ValueSource<'_> {
     match rows.get(slot) {
-        Some(row) => Source::Row(row),
-        None => Source::Number(0),
+        Some(row) => ValueSource::Row(row),
+        None => ValueSource::Number(0),
     }
 }
 
-pub(crate) fn source_of<'a>(rows: &'a [Row], a: &Atom<usize>) -> Source<'a> {
+pub(crate) fn source_of<'a>(rows: &'a [Row], a: &Atom<usize>) -> ValueSource<'a> {
     match a {
         Atom::Net(slot) => source_of_slot(rows, *slot),
-        Atom::Constant(c) => Source::Number(c.value()),
+        Atom::Constant(c) => ValueSource::Number(c.value()),
     }
 }
 
-impl<'a> Source<'a> {
+impl<'a> ValueSource<'a> {
     // The value at a clock.
     pub(crate) fn at(self, t: usize) -> u64 {
         match self {
-            Source::Row(row) => place_in(row, t),
-            Source::Number(value) => value,
+            ValueSource::Row(row) => place_in(row, t),
+            ValueSource::Number(value) => value,
         }
     }
 
     // The numbers of a row in this lane.
     pub(crate) fn numbers<L: Lane>(self) -> Option<&'a [L]> {
         match self {
-            Source::Row(row) => L::of_row(row),
-            Source::Number(_) => None,
+            ValueSource::Row(row) => L::of_row(row),
+            ValueSource::Number(_) => None,
         }
     }
 }

@@ -5,12 +5,12 @@ ghost use Rattle.batch_guess.specs.Guess.{KeepsCode};
 
 use crate::fill::{Line, count_steps, first_apart};
 use crate::guess::RowGuess;
-use crate::hints::Change;
-use crate::proposals::{ENABLE, Proposal, propose_access, propose_row};
+use crate::hints::ValueChange;
+use crate::proposals::{ENABLE, RowProposal, propose_access, propose_row};
 use crate::sources::{source_of, source_of_slot};
 use crate::stored::Stored;
 use crate::table::{offer, run_upto};
-use batch_plan::{Step, Written};
+use batch_plan::{BatchStep, WriteForm};
 use batch_rows::Code;
 
 // The most rounds in which the rows of a cycle are guessed.
@@ -49,7 +49,7 @@ impl RowGuess {
 
     // A row is proposed for a slot.
     #[tactic(auto, using(crate::proofs::Tables::table_refilled))]
-    fn propose(&mut self, slot: usize, proposal: &Proposal<'_>) -> bool
+    fn propose(&mut self, slot: usize, proposal: &RowProposal<'_>) -> bool
         ensures { KeepsCode self.old self.new }
     {
         propose_row(&mut self.table, slot, proposal);
@@ -66,7 +66,7 @@ impl RowGuess {
         let next = *next;
         let slot = self.engine.slot_of(register);
         let stored = stored.reg(register);
-        self.propose(slot, &Proposal::Shift { next, stored })
+        self.propose(slot, &RowProposal::Shift { next, stored })
     }
 
     // The row of a register that takes what is read of an array, or keeps its value.
@@ -78,7 +78,7 @@ impl RowGuess {
         };
         let slot = self.engine.slot_of(register);
         let stored = stored.reg(register);
-        self.propose(slot, &Proposal::Load { choice, stored })
+        self.propose(slot, &RowProposal::Load { choice, stored })
     }
 
     // The row of a read of an array whose words stay as they are.
@@ -93,12 +93,12 @@ impl RowGuess {
         };
         let slot = read.target;
         let index = read.index;
-        self.propose(slot, &Proposal::Read { index, words })
+        self.propose(slot, &RowProposal::Read { index, words })
     }
 
     // The row of a read of an array that is written. It works on a copy of the array's words.
     #[tactic(auto, using(crate::proofs::Tables::table_refilled))]
-    fn read_written(&mut self, stored: &Stored, array: usize, written: Written) -> bool
+    fn read_written(&mut self, stored: &Stored, array: usize, written: WriteForm) -> bool
         ensures { KeepsCode self.old self.new }
     {
         let Some(access) = self.engine.access_at(stored, array, written) else {
@@ -133,7 +133,7 @@ impl RowGuess {
     {
         let slot = self.engine.slot_of(register);
         let steps = self.hints.steps_of(line);
-        let proposal = Proposal::Line {
+        let proposal = RowProposal::Line {
             slot,
             first,
             line,
@@ -194,11 +194,11 @@ impl RowGuess {
     }
 
     // How a register changes after a clock.
-    fn change_at(&self, register: usize, clock: usize) -> Option<Change> {
+    fn change_at(&self, register: usize, clock: usize) -> Option<ValueChange> {
         let next = self.engine.code.nexts.get(register)?;
         let row = source_of_slot(&self.table.rows, self.engine.slot_of(register));
         let enable = source_of_slot(&self.table.rows, ENABLE);
-        Some(Change {
+        Some(ValueChange {
             clock,
             value: row.at(clock),
             next: source_of(&self.table.rows, next).at(clock),
@@ -280,26 +280,26 @@ impl RowGuess {
     }
 
     // One step of the plan, whether it succeeds.
-    fn take_step(&mut self, stored: &Stored, step: Step, count: usize) -> bool
+    fn take_step(&mut self, stored: &Stored, step: BatchStep, count: usize) -> bool
         ensures { KeepsCode self.old self.new }
     {
         match step {
-            Step::Run { upto } => {
+            BatchStep::Run { upto } => {
                 self.run(upto);
                 true
             }
-            Step::Shift { register } => self.shift(stored, register),
-            Step::Read { array } => self.read(stored, array),
-            Step::Load { register } => self.load(stored, register),
-            Step::ReadWritten { array, written } => self.read_written(stored, array, written),
-            Step::Guess { first, last, upto } => {
+            BatchStep::Shift { register } => self.shift(stored, register),
+            BatchStep::Read { array } => self.read(stored, array),
+            BatchStep::Load { register } => self.load(stored, register),
+            BatchStep::ReadWritten { array, written } => self.read_written(stored, array, written),
+            BatchStep::Guess { first, last, upto } => {
                 self.guess_cycle(stored, Cycle { first, last, upto }, count)
             }
         }
     }
 
     // The step of this number.
-    fn step_at(&self, number: usize) -> Option<Step> {
+    fn step_at(&self, number: usize) -> Option<BatchStep> {
         match self.engine.plan.steps.get(number) {
             Some(step) => Some(*step),
             None => None,

@@ -1,6 +1,6 @@
 // What each assign and each update needs. The nodes are the assigns, and then the updates.
 
-use crate::plan::Written;
+use crate::plan::WriteForm;
 use netlist::Netlist;
 use std::alloc::{AllocError, Global};
 use wiring::{Assign, Atom, Net, Right, Update};
@@ -63,13 +63,19 @@ fn note_assigns(wiring: &Netlist, nodes: &mut [Option<usize>]) {
     }
 }
 
+// The place of the register that an update sets.
+fn place_set(wiring: &Netlist, update: Update) -> Option<usize> {
+    match update {
+        Update::Set(reg, _) => place_of(wiring, Net::Reg(reg)),
+        Update::Put(_, _, _) => None,
+    }
+}
+
 fn note_updates(wiring: &Netlist, nodes: &mut [Option<usize>]) {
     let first = wiring.assigns.len();
     for number in 0..wiring.updates.len() {
-        if let Update::Set(reg, _) = wiring.updates[number] {
-            if let Some(place) = place_of(wiring, Net::Reg(reg)) {
-                put_node(nodes, place, first.saturating_add(number));
-            }
+        if let Some(place) = place_set(wiring, wiring.updates[number]) {
+            put_node(nodes, place, first.saturating_add(number));
         }
     }
 }
@@ -113,11 +119,11 @@ pub(crate) fn words_read(wiring: &Netlist, number: usize) -> usize {
 
 // An array that an assign reads.
 #[derive(Clone, Copy)]
-pub(crate) struct Access {
+pub(crate) struct ArrayRead {
     pub(crate) array: usize,
     // How its words are written clock by clock, if a batch comes back to them. Else it has more words than the batch has clocks, and
     // what is read was there before the batch.
-    pub(crate) written: Option<Written>,
+    pub(crate) written: Option<WriteForm>,
 }
 
 // How many assigns read each array.
@@ -186,7 +192,7 @@ fn are_one_net(a: &Atom<Net>, b: &Atom<Net>) -> bool {
 
 // A module's wiring with what drives its nets, for batches of some clocks.
 #[derive(Drop)]
-struct Drivers<'a> {
+struct NetDrivers<'a> {
     wiring: &'a Netlist,
     // the node that drives each net
     nodes: Vec<Option<usize>>,
@@ -196,7 +202,7 @@ struct Drivers<'a> {
     size: usize,
 }
 
-impl<'a> Drivers<'a> {
+impl<'a> NetDrivers<'a> {
     // The node that drives a net.
     fn of_net(&self, net: Net) -> Option<usize> {
         match place_of(self.wiring, net) {
@@ -238,13 +244,8 @@ impl<'a> Drivers<'a> {
             return None;
         };
         match self.right_of(next) {
-            Some(Right::Choose(bit, read, kept)) if is_net(kept, Net::Reg(*register)) => {
-                if self.is_read(read) {
-                    Some((bit, read))
-                } else {
-                    None
-                }
-            }
+            Some(Right::Choose(bit, read, kept))
+                if is_net(kept, Net::Reg(*register)) && self.is_read(read) => { Some((bit, read)) }
             _ => None,
         }
     }
@@ -267,11 +268,11 @@ impl<'a> Drivers<'a> {
         }
     }
 
-    // What the bit and the value of a choice need.
-    fn choice_needs(&self, bit: &Atom<Net>, value: &Atom<Net>) -> Needs {
+    // What two atoms need: the bit and the value of a choice, or the index and the value of a put.
+    fn both_needs(&self, one: &Atom<Net>, other: &Atom<Net>) -> Needs {
         let mut needs = NONE;
-        needs.second = self.of(bit);
-        needs.third = self.of(value);
+        needs.second = self.of(one);
+        needs.third = self.of(other);
         needs
     }
 
@@ -279,7 +280,7 @@ impl<'a> Drivers<'a> {
     fn kept_needs(&self, value: &Atom<Net>, target: Net) -> Option<Needs> {
         match self.right_of(value) {
             Some(Right::Choose(bit, put, kept)) if is_net(kept, target) => {
-                Some(self.choice_needs(bit, put))
+                Some(self.both_needs(bit, put))
             }
             _ => None,
         }
@@ -289,32 +290,29 @@ impl<'a> Drivers<'a> {
     fn copied_needs(&self, value: &Atom<Net>, target: Net) -> Option<Needs> {
         match self.right_of(value) {
             Some(Right::Choose(bit, put, kept)) if self.is_copy(kept, target) => {
-                Some(self.choice_needs(bit, put))
+                Some(self.both_needs(bit, put))
             }
             _ => None,
         }
     }
 
     // What the read of an array to whose words a batch comes back needs beside its index: what is put, or what it is chosen from.
-    fn written_needs(&self, update: &Update, target: Net, index: &Atom<Net>) -> (Needs, Written) {
-        let mut needs = NONE;
-        if let Update::Put(_, place, value) = update {
-            if are_one_net(place, index) {
-                if let Some(kept) = self.kept_needs(value, target) {
-                    return (kept, Written::Choice);
-                }
-            }
-            if let Some(copied) = self.copied_needs(value, target) {
-                return (copied, Written::Copy);
-            }
-            needs.second = self.of(place);
-            needs.third = self.of(value);
+    fn written_needs(&self, update: &Update, target: Net, index: &Atom<Net>) -> (Needs, WriteForm) {
+        let Update::Put(_, place, value) = update else {
+            return (NONE, WriteForm::Put);
+        };
+        match self.kept_needs(value, target) {
+            Some(kept) if are_one_net(place, index) => return (kept, WriteForm::Choice),
+            _ => {}
         }
-        (needs, Written::Put)
+        if let Some(copied) = self.copied_needs(value, target) {
+            return (copied, WriteForm::Copy);
+        }
+        (self.both_needs(place, value), WriteForm::Put)
     }
 
     // What the read of an array needs: where a batch comes back to its words also what is put.
-    fn word_needs(&self, target: Net, array: usize, index: &Atom<Net>) -> (Needs, Access) {
+    fn word_needs(&self, target: Net, array: usize, index: &Atom<Net>) -> (Needs, ArrayRead) {
         let mut needs = NONE;
         let mut written = None;
         if depth_of(self.wiring, array) <= self.size {
@@ -325,7 +323,7 @@ impl<'a> Drivers<'a> {
             }
         }
         needs.first = self.of(index);
-        (needs, Access { array, written })
+        (needs, ArrayRead { array, written })
     }
 
     // What an assign that reads no array needs.
@@ -351,7 +349,7 @@ impl<'a> Drivers<'a> {
         needs
     }
 
-    fn assign_needs(&self, assign: &Assign) -> (Needs, Option<Access>) {
+    fn assign_needs(&self, assign: &Assign) -> (Needs, Option<ArrayRead>) {
         if let Right::Word(array, index) = &assign.right {
             let (needs, access) = self.word_needs(assign.target, *array, index);
             (needs, Some(access))
@@ -377,11 +375,11 @@ impl<'a> Drivers<'a> {
 #[derive(Drop)]
 pub(crate) struct Graph {
     pub(crate) needs: Vec<Needs>,
-    pub(crate) accesses: Vec<Option<Access>>,
+    pub(crate) accesses: Vec<Option<ArrayRead>>,
     pub(crate) loads: Vec<bool>,
 }
 
-fn add_assigns(graph: &mut Graph, drivers: &Drivers<'_>) -> Result<(), AllocError> {
+fn add_assigns(graph: &mut Graph, drivers: &NetDrivers<'_>) -> Result<(), AllocError> {
     for assign in &drivers.wiring.assigns {
         let (needs, access) = drivers.assign_needs(assign);
         graph.needs.push(needs)?;
@@ -390,7 +388,7 @@ fn add_assigns(graph: &mut Graph, drivers: &Drivers<'_>) -> Result<(), AllocErro
     Ok(())
 }
 
-fn add_updates(graph: &mut Graph, drivers: &Drivers<'_>) -> Result<(), AllocError> {
+fn add_updates(graph: &mut Graph, drivers: &NetDrivers<'_>) -> Result<(), AllocError> {
     for update in &drivers.wiring.updates {
         graph.needs.push(drivers.update_needs(update))?;
         graph.loads.push(drivers.loaded(update).is_some())?;
@@ -402,7 +400,7 @@ fn add_updates(graph: &mut Graph, drivers: &Drivers<'_>) -> Result<(), AllocErro
 pub(crate) fn graph_of(alloc: Global, wiring: &Netlist, size: usize) -> Result<Graph, AllocError> {
     let nodes = nodes_of(alloc, wiring)?;
     let puts = puts_of(alloc, wiring)?;
-    let drivers = Drivers {
+    let drivers = NetDrivers {
         wiring,
         nodes,
         puts,

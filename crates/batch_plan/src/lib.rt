@@ -6,4 +6,4 @@ mod groups;
 mod plan;
 mod search;
 
-pub use plan::{Plan, Step, Written, make_plan};
+pub use plan::{BatchPlan, BatchStep, WriteForm, make_plan};

@@ -2,8 +2,8 @@
 //
 // It is for speed and claims nothing: who runs it checks all that it rests on.
 
-use crate::graph::{Access, Graph, Needs, arrays_are_single, graph_of, words_read};
-use crate::groups::{Groups, groups_of};
+use crate::graph::{ArrayRead, Graph, Needs, arrays_are_single, graph_of, words_read};
+use crate::groups::{NodeGroups, groups_of};
 use crate::search::components_of;
 use dk_base::OutOfMemory;
 use netlist::{Module, Netlist};
@@ -12,7 +12,7 @@ use wiring::Update;
 
 /// How the words of an array to which a batch comes back are written, clock by clock.
 #[derive(Clone, Copy, Debug, PartialEq, Eq)]
-pub enum Written {
+pub enum WriteForm {
     /// By its put.
     Put,
     /// By a choice: a value where a bit is 1, else what is read, at the index of the read. The choice is evaluated after the read.
@@ -24,7 +24,7 @@ pub enum Written {
 
 /// What is done next to the rows of a batch.
 #[derive(Clone, Copy, Debug, PartialEq, Eq)]
-pub enum Step {
+pub enum BatchStep {
     /// The assigns of the order up to this place, exclusive, are evaluated over the whole batch.
     Run {
         upto: usize,
@@ -42,7 +42,7 @@ pub enum Step {
     /// choice.
     ReadWritten {
         array: usize,
-        written: Written,
+        written: WriteForm,
     },
     /// This register takes what is read of an array where a bit is 1, and else keeps its value: its row is made from those of the
     /// bit and of the read, and the choice is evaluated after this step.
@@ -61,10 +61,10 @@ pub enum Step {
 /// The assigns that read no array, each after all that it reads but for cycles through registers, and the steps that evaluate
 /// them.
 #[derive(Debug, Drop)]
-pub struct Plan {
+pub struct BatchPlan {
     /// The numbers of these assigns.
     pub order: Vec<usize>,
-    pub steps: Vec<Step>,
+    pub steps: Vec<BatchStep>,
     /// The registers on cycles.
     pub looped: Vec<usize>,
     /// The most clocks of a batch.
@@ -73,29 +73,29 @@ pub struct Plan {
 
 // A plan that is made, and how many of its assigns its steps evaluate.
 #[derive(Drop)]
-struct Draft {
-    plan: Plan,
+struct PlanDraft {
+    plan: BatchPlan,
     done: usize,
 }
 
 // Evaluates what was gathered.
-fn flush(draft: &mut Draft) -> Result<(), AllocError> {
+fn flush(draft: &mut PlanDraft) -> Result<(), AllocError> {
     let upto = draft.plan.order.len();
     if upto > draft.done {
-        draft.plan.steps.push(Step::Run { upto })?;
+        draft.plan.steps.push(BatchStep::Run { upto })?;
         draft.done = upto;
     }
     Ok(())
 }
 
-fn add_step(draft: &mut Draft, step: Step) -> Result<(), AllocError> {
+fn add_step(draft: &mut PlanDraft, step: BatchStep) -> Result<(), AllocError> {
     flush(draft)?;
     draft.plan.steps.push(step)?;
     Ok(())
 }
 
 // How an assign reads an array, if it does.
-fn access_at(graph: &Graph, assign: usize) -> Option<Access> {
+fn access_at(graph: &Graph, assign: usize) -> Option<ArrayRead> {
     match graph.accesses.get(assign) {
         Some(access) => *access,
         None => None,
@@ -103,24 +103,15 @@ fn access_at(graph: &Graph, assign: usize) -> Option<Access> {
 }
 
 // An assign on no cycle.
-fn add_assign(draft: &mut Draft, graph: &Graph, assign: usize) -> Result<(), AllocError> {
-    match access_at(graph, assign) {
-        None => {
-            draft.plan.order.push(assign)?;
-            Ok(())
-        }
-        Some(
-            Access {
-                array,
-                written: None,
-            },
-        ) => add_step(draft, Step::Read { array }),
-        Some(
-            Access {
-                array,
-                written: Some(written),
-            },
-        ) => { add_step(draft, Step::ReadWritten { array, written }) }
+fn add_assign(draft: &mut PlanDraft, graph: &Graph, assign: usize) -> Result<(), AllocError> {
+    let Some(access) = access_at(graph, assign) else {
+        draft.plan.order.push(assign)?;
+        return Ok(());
+    };
+    let array = access.array;
+    match access.written {
+        None => add_step(draft, BatchStep::Read { array }),
+        Some(written) => add_step(draft, BatchStep::ReadWritten { array, written }),
     }
 }
 
@@ -141,7 +132,7 @@ fn register_of(wiring: &Netlist, update: usize) -> Option<usize> {
 
 // The one node of a group, on no cycle.
 fn add_single(
-    draft: &mut Draft,
+    draft: &mut PlanDraft,
     wiring: &Netlist,
     graph: &Graph,
     node: usize,
@@ -152,56 +143,70 @@ fn add_single(
     }
     let update = node - assigns;
     match register_of(wiring, update) {
-        Some(register) if is_load(graph, update) => add_step(draft, Step::Load { register }),
-        Some(register) => add_step(draft, Step::Shift { register }),
+        Some(register) if is_load(graph, update) => add_step(draft, BatchStep::Load { register }),
+        Some(register) => add_step(draft, BatchStep::Shift { register }),
         None => Ok(()),
     }
 }
 
+// One node of a group on a cycle; false where it reads an array.
+fn add_looped(
+    draft: &mut PlanDraft,
+    wiring: &Netlist,
+    graph: &Graph,
+    node: usize,
+) -> Result<bool, AllocError> {
+    if let Some(update) = node.checked_sub(wiring.assigns.len()) {
+        if let Some(register) = register_of(wiring, update) {
+            draft.plan.looped.push(register)?;
+        }
+        return Ok(true);
+    }
+    if access_at(graph, node).is_some() {
+        return Ok(false);
+    }
+    draft.plan.order.push(node)?;
+    Ok(true)
+}
+
 // The nodes of a group on a cycle; false where one of them reads an array.
 fn add_cycle(
-    draft: &mut Draft,
+    draft: &mut PlanDraft,
     wiring: &Netlist,
     graph: &Graph,
     nodes: &[usize],
 ) -> Result<bool, AllocError> {
     flush(draft)?;
     let first = draft.plan.looped.len();
-    let assigns = wiring.assigns.len();
     for node in nodes {
-        if *node >= assigns {
-            if let Some(register) = register_of(wiring, *node - assigns) {
-                draft.plan.looped.push(register)?;
-            }
-        } else if access_at(graph, *node).is_none() {
-            draft.plan.order.push(*node)?;
-        } else {
+        if !add_looped(draft, wiring, graph, *node)? {
             return Ok(false);
         }
     }
     let last = draft.plan.looped.len();
     let upto = draft.plan.order.len();
-    draft.plan.steps.push(Step::Guess { first, last, upto })?;
+    draft
+        .plan
+        .steps
+        .push(BatchStep::Guess { first, last, upto })?;
     draft.done = upto;
     Ok(true)
 }
 
 fn add_group(
-    draft: &mut Draft,
+    draft: &mut PlanDraft,
     wiring: &Netlist,
     graph: &Graph,
     nodes: &[usize],
 ) -> Result<bool, AllocError> {
-    match nodes.first() {
-        None => Ok(true),
-        Some(node) => {
-            if nodes.len() > 1 || needs_itself(&graph.needs, *node) {
-                return add_cycle(draft, wiring, graph, nodes);
-            }
-            add_single(draft, wiring, graph, *node)?;
-            Ok(true)
-        }
+    let Some(node) = nodes.first() else {
+        return Ok(true);
+    };
+    if nodes.len() > 1 || needs_itself(&graph.needs, *node) {
+        return add_cycle(draft, wiring, graph, nodes);
     }
+    add_single(draft, wiring, graph, *node)?;
+    Ok(true)
 }
 
 fn needs_itself(needs: &[Needs], node: usize) -> bool {
@@ -217,7 +222,7 @@ fn needs_itself(needs: &[Needs], node: usize) -> bool {
 // fewer arrays to which a batch comes back. It is 0 where it has none.
 #[derive(Drop)]
 enum Drawn {
-    Plan(Plan),
+    Plan(BatchPlan),
     Cycle(usize),
 }
 
@@ -233,9 +238,9 @@ fn deepest(wiring: &Netlist, nodes: &[usize], size: usize) -> usize {
     most
 }
 
-fn empty_draft(alloc: Global, size: usize) -> Draft {
-    Draft {
-        plan: Plan {
+fn empty_draft(alloc: Global, size: usize) -> PlanDraft {
+    PlanDraft {
+        plan: BatchPlan {
             order: Vec::new(alloc),
             steps: Vec::new(alloc),
             looped: Vec::new(alloc),
@@ -249,7 +254,7 @@ fn add_groups(
     alloc: Global,
     wiring: &Netlist,
     graph: &Graph,
-    groups: &Groups,
+    groups: &NodeGroups,
     size: usize,
 ) -> Result<Drawn, AllocError> {
     let mut draft = empty_draft(alloc, size);
@@ -279,7 +284,11 @@ const TRIES: usize = 16;
 /// The plan of a module for batches of at most this many clocks, or of fewer where an array is else on a cycle: what is put into
 /// it depends on what is read of it, and a batch comes back to its words. None where there is no plan: an array that is not read
 /// by one assign and put once, or one on a cycle in shorter batches too. Time and memory are linear in the module.
-pub fn make_plan(alloc: Global, module: &Module, most: usize) -> Result<Option<Plan>, OutOfMemory> {
+pub fn make_plan(
+    alloc: Global,
+    module: &Module,
+    most: usize,
+) -> Result<Option<BatchPlan>, OutOfMemory> {
     if !arrays_are_single(alloc, module.wiring())? {
         return Ok(None);
     }

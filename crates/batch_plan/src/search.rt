@@ -50,11 +50,12 @@ fn lower(low: &mut [usize], node: usize, number: usize) {
 fn close(search: &mut Search, node: usize) {
     search.found.count = search.found.count.saturating_add(1);
     for _ in 0..search.waiting.len() {
-        if let Some(last) = search.waiting.pop() {
-            put(&mut search.found.component, last, search.found.count);
-            if last == node {
-                return;
-            }
+        let Some(last) = search.waiting.pop() else {
+            return;
+        };
+        put(&mut search.found.component, last, search.found.count);
+        if last == node {
+            return;
         }
     }
 }
@@ -133,12 +134,11 @@ pub(crate) fn components_of(alloc: Global, needs: &[Needs]) -> Result<Found, All
     let mut next = 0;
     // each node is taken up, looked at three times and left
     for _ in 0..count.saturating_mul(5) {
-        match search.path.last().copied() {
-            Some(visit) => go_on(&mut search, needs, visit)?,
-            None => {
-                begin(&mut search, next)?;
-                next = next.saturating_add(1).min(count);
-            }
+        if let Some(visit) = search.path.last().copied() {
+            go_on(&mut search, needs, visit)?;
+        } else {
+            begin(&mut search, next)?;
+            next = next.saturating_add(1).min(count);
         }
     }
     Ok(search.found)

@@ -13,7 +13,7 @@ use crate::pieces::{LEAST, MOST_CLOCKS};
 use crate::rows::Rows;
 use batch_code::batch_code_of;
 use batch_guess::{Engine, RowGuess};
-use batch_plan::{Plan, make_plan};
+use batch_plan::{BatchPlan, make_plan};
 use batch_rows::BatchCode;
 use dk_base::OutOfMemory;
 use netlist::{Module, Netlist};
@@ -102,7 +102,7 @@ fn rows_of_engine(
 fn engine_of(
     alloc: Global,
     code: BatchCode,
-    plan: Plan,
+    plan: BatchPlan,
     wiring: &Netlist,
     ports: usize,
 ) -> Result<Engine, AllocError>
