@@ -191,6 +191,15 @@ fn leaving(
     leaving
 }
 
+// A flow that loses or gains an amount.
+fn changed(flow: u64, is_lost: bool, amount: u64) -> u64 {
+    if is_lost {
+        flow.saturating_sub(amount)
+    } else {
+        flow.saturating_add(amount)
+    }
+}
+
 // Moves flow along one side.
 fn shift(
     constraints: &[Constraint],
@@ -207,11 +216,8 @@ fn shift(
         }
         let link = link_of(&basis.links, node);
         if let Some(flow) = basis.flow.get_mut(link.via) {
-            *flow = if loses(constraint_of(constraints, link.via), node, side) {
-                flow.saturating_sub(amount)
-            } else {
-                flow.saturating_add(amount)
-            };
+            let is_lost = loses(constraint_of(constraints, link.via), node, side);
+            *flow = changed(*flow, is_lost, amount);
         }
         node = link.parent;
     }
