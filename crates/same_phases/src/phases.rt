@@ -100,12 +100,7 @@ fn is_phase_of(roles: &[Role], image: u32, phase: usize, other: u32) -> bool
     ensures { IsTrue result → slice_get roles.now other ≡ Some (Role.Phase image phase) }
 {
     match role_of(roles, other) {
-        Some(Role::Phase(its, number)) => {
-            if its != image {
-                return false;
-            }
-            number as usize == phase
-        }
+        Some(Role::Phase(its, number)) => its == image && number as usize == phase,
         Some(Role::Column(_, _)) => false,
         Some(Role::Frame) => false,
         None => false,

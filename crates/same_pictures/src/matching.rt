@@ -81,6 +81,17 @@ pub fn is_pair(pairs: &[Option<u32>], image: u32, other: u32) -> bool
     }
 }
 
+// The body of the definition that the expression reads at the point itself, or the operand of a conversion that changes nothing.
+fn simplified<'a>(on: &Ranged<'a>, e: &'a Expr) -> Option<&'a Expr>
+    requires ranges { AreRangesOf on.now.program.now on.now.ranges.now }
+    ensures { IfSome result (λ a. StandsFor on.now.program.now (tree_of e.now) (tree_of a.now)) }
+{
+    match defining(on.program, e) {
+        Some(body) => Some(body),
+        None => unneeded(on, e),
+    }
+}
+
 // Whether an expression of the new program is a read by this step of the counterpart of an image of the old program, without conversions that change nothing, and with bodies in place of what is read at the point itself.
 fn reads_pair(on: &Compared<'_>, image: u32, step: Step, b: &Expr) -> bool
     requires { CanCompare on.now.old.program.now on.now.new.program.now on.now.old.ranges.now on.now.new.ranges.now on.now.pairs.now }
@@ -88,17 +99,13 @@ fn reads_pair(on: &Compared<'_>, image: u32, step: Step, b: &Expr) -> bool
 {
     let mut now = b;
     for _ in 0..MAX_INLINED_DEPTH {
-        if let Some(other) = read_image(now, step.edge, step.dx, step.dy) {
-            if is_pair(on.pairs, image, other) {
-                return true;
-            }
+        match read_image(now, step.edge, step.dx, step.dy) {
+            Some(other) if is_pair(on.pairs, image, other) => return true,
+            _ => {}
         }
-        match defining(on.new.program, now) {
-            Some(body) => now = body,
-            None => match unneeded(&on.new, now) {
-                Some(operand) => now = operand,
-                None => return false,
-            },
+        match simplified(&on.new, now) {
+            Some(other) => now = other,
+            None => return false,
         }
     }
     false

@@ -138,24 +138,11 @@ pub fn is_same(a: &Expr, b: &Expr) -> bool
             None => false,
         },
         Expr::Binary(op, left, right) => match binary_operands(b, *op) {
-            Some((l, r)) => {
-                if !is_same(left, l) {
-                    return false;
-                }
-                is_same(right, r)
-            }
+            Some((l, r)) => is_same(left, l) && is_same(right, r),
             None => false,
         },
         Expr::Select(condition, left, right) => match select_operands(b) {
-            Some((c, l, r)) => {
-                if !is_same(condition, c) {
-                    return false;
-                }
-                if !is_same(left, l) {
-                    return false;
-                }
-                is_same(right, r)
-            }
+            Some((c, l, r)) => is_same(condition, c) && is_same(left, l) && is_same(right, r),
             None => false,
         },
         Expr::Convert(how, operand, ty) => match converted_operand(b, *how, *ty) {
