@@ -68,23 +68,15 @@ fn has_same_behind(on: &Compared<'_>, step: Step, a: &Expr, b: &Expr) -> bool
             None => false,
         },
         Expr::Binary(op, left, right) => match binary_operands(e, *op) {
-            Some((l, r)) => {
-                if !has_same_behind(on, step, left, l) {
-                    return false;
-                }
-                has_same_behind(on, step, right, r)
-            }
+            Some((l, r)) => has_same_behind(on, step, left, l)
+                && has_same_behind(on, step, right, r),
             None => false,
         },
         Expr::Select(condition, left, right) => match select_operands(e) {
             Some((c, l, r)) => {
-                if !has_same_behind(on, step, condition, c) {
-                    return false;
-                }
-                if !has_same_behind(on, step, left, l) {
-                    return false;
-                }
-                has_same_behind(on, step, right, r)
+                has_same_behind(on, step, condition, c)
+                    && has_same_behind(on, step, left, l)
+                    && has_same_behind(on, step, right, r)
             }
             None => false,
         },

@@ -229,31 +229,20 @@ fn has_same_moved(on: &Compared<'_>, at: Step, a: &Expr, b: &Expr) -> bool
             None => false,
         },
         Expr::Binary(op, left, right) => match binary_operands(e, *op) {
-            Some((l, r)) => {
-                if !has_same_moved(on, at, left, l) {
-                    return false;
-                }
-                has_same_moved(on, at, right, r)
-            }
+            Some((l, r)) => has_same_moved(on, at, left, l) && has_same_moved(on, at, right, r),
             None => match product_factors(&on.new, *op, e) {
                 Some(factors) => {
-                    if !has_same_moved(on, at, left, factors.left) {
-                        return false;
-                    }
-                    has_same_moved(on, at, right, factors.right)
+                    has_same_moved(on, at, left, factors.left)
+                        && has_same_moved(on, at, right, factors.right)
                 }
                 None => false,
             },
         },
         Expr::Select(condition, left, right) => match select_operands(e) {
             Some((c, l, r)) => {
-                if !has_same_moved(on, at, condition, c) {
-                    return false;
-                }
-                if !has_same_moved(on, at, left, l) {
-                    return false;
-                }
-                has_same_moved(on, at, right, r)
+                has_same_moved(on, at, condition, c)
+                    && has_same_moved(on, at, left, l)
+                    && has_same_moved(on, at, right, r)
             }
             None => false,
         },

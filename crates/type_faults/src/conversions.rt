@@ -22,28 +22,10 @@ fn converts(e: &Expr) -> bool
     match &e.node {
         Node::Number(_) | Node::Read(_) => true,
         Node::Unary(_, a) => converts(a),
-        Node::Binary(_, a, b) => {
-            if !converts(a) {
-                return false;
-            }
-            converts(b)
-        }
+        Node::Binary(_, a, b) => converts(a) && converts(b),
         Node::Scale(_, a, _) => converts(a),
-        Node::Cast(a, to) | Node::Sat(a, to) => {
-            if !is_type(to.ty) {
-                return false;
-            }
-            converts(a)
-        }
-        Node::Select(c, a, b) => {
-            if !converts(c) {
-                return false;
-            }
-            if !converts(a) {
-                return false;
-            }
-            converts(b)
-        }
+        Node::Cast(a, to) | Node::Sat(a, to) => is_type(to.ty) && converts(a),
+        Node::Select(c, a, b) => converts(c) && converts(a) && converts(b),
     }
 }
 
