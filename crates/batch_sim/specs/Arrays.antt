@@ -8,7 +8,7 @@ use Rattle.batch_rows.specs.Rights.{HasRow, IsAtomRow}
 use Rattle.lane_rows.specs.Values.{numbers_in, items_of}
 use Rattle.lane_rows.specs.Words.{words_after, IsReadUpTo, AreInside}
 use Rattle.batch_rows.specs.declared.module_code.WordRead.{WordRead}
-use Rattle.batch_sim.specs.declared.judge.arrays.Access.{Access}
+use Rattle.batch_sim.specs.declared.judge.arrays.ArrayAccess.{ArrayAccess}
 use Rattle.batch_sim.specs.declared.judge.arrays.Accesses.{Accesses}
 use Rattle.batch_sim.specs.declared.judge.arrays.AccessNumbers.{AccessNumbers}
 use Rattle.batch_sim.specs.declared.judge.arrays.AccessSlots.{AccessSlots}
@@ -77,11 +77,11 @@ pub record PassesArray (made : List (List ℕ)) (r : WordRead) (p : WordPut) (co
   pub back : IsFalse result → new ≡ old
 
 -- `PassesArray` of an access
-abbrev pub PassesAccess : List (List ℕ) → Access → Bool → (old new taken : List ℕ) → Type 0
+abbrev pub PassesAccess : List (List ℕ) → ArrayAccess → Bool → (old new taken : List ℕ) → Type 0
 PassesAccess made a result old new taken = PassesArray made a.read.now a.put.now a.count result old new taken
 
 -- the rows of an access have its clocks
-abbrev pub HaveRowsOf : List (List ℕ) → Access → Type 0
+abbrev pub HaveRowsOf : List (List ℕ) → ArrayAccess → Type 0
 HaveRowsOf made a = HaveAccessRows made a.count a.read.now a.put.now
 
 -- all arrays but one are as before

@@ -30,7 +30,7 @@ pub struct PassRoom {
 
 // The accesses of one array: at each of this many clocks it is read, and a word is put.
 #[derive(Clone, Copy)]
-pub struct Access<'a> {
+pub struct ArrayAccess<'a> {
     pub read: &'a WordRead,
     pub put: &'a WordPut,
     pub count: usize,
@@ -373,7 +373,7 @@ fn numbers_of_access<'a>(
 fn pass_rows(
     rows: &[Row],
     room: &mut ArrayRoom,
-    access: &Access<'_>,
+    access: &ArrayAccess<'_>,
     words: &mut [u64],
     to: &mut [u64],
     lost: &mut [u64],
@@ -400,7 +400,7 @@ fn pass_rows(
 pub fn pass_first(
     rows: &[Row],
     room: &mut ArrayRoom,
-    access: &Access<'_>,
+    access: &ArrayAccess<'_>,
     words: &mut [u64],
     to: &mut [u64],
     lost: &mut [u64],

@@ -5,14 +5,14 @@ ghost use Rattle.cycle_sim.specs.Slots.{words_of};
 ghost use Rattle.lane_rows.specs.Values.{values_of, items_of};
 ghost use Rattle.batch_sim.specs.Arrays.{words_at, AllTakenBack, CanPassAll, CanUndo, CanUndoAll, HasSpareRows, HaveRowsOf, IsArrayRoom, IsPassRoom, IsUndone, OthersStay, PassesAccess, PassesAll};
 
-use crate::judge::arrays::{Access, Accesses, ArrayRoom, PassRoom, Undo, pass_first, undo_array};
+use crate::judge::arrays::{ArrayAccess, Accesses, ArrayRoom, PassRoom, Undo, pass_first, undo_array};
 use lane_rows::Row;
 
 // One array in its vector.
 fn pass_vec(
     rows: &[Row],
     room: &mut PassRoom,
-    access: &Access<'_>,
+    access: &ArrayAccess<'_>,
     words: &mut Vec<u64>,
     lost: &mut Vec<u64>,
 ) -> bool
@@ -31,7 +31,7 @@ fn pass_vec(
 fn pass_at(
     rows: &[Row],
     room: &mut PassRoom,
-    access: &Access<'_>,
+    access: &ArrayAccess<'_>,
     arrays: &mut [Vec<u64>],
     lost: &mut [Vec<u64>],
     array: usize,
@@ -118,7 +118,7 @@ pub fn pass_arrays(
     let puts = all.puts;
     let count = all.count;
     for array in 0..reads.len() {
-        let access = Access {
+        let access = ArrayAccess {
             read: &reads[array],
             put: &puts[array],
             count,
