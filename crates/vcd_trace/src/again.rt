@@ -61,21 +61,19 @@ fn read_clocks(
             widths,
             values: before.as_slice(),
         };
-        match read_at(alloc, &mut line, &variables, time, rest, line_number) {
+        let clock = match read_at(alloc, &mut line, &variables, time, rest, line_number) {
             Err(fault) => return Err(fault),
             Ok(None) => return Ok(rows),
-            Ok(Some(clock)) => {
-                match add_row(alloc, &mut rows, &clock.values) {
-                    Err(_) => return Err(VcdError::OutOfMemory),
-                    Ok(()) => {}
-                }
-                before = clock.values;
-                rest = clock.rest;
-                line_number = clock.number;
-                first = false;
-                time += 1;
-            }
+            Ok(Some(clock)) => clock,
+        };
+        if add_row(alloc, &mut rows, &clock.values).is_err() {
+            return Err(VcdError::OutOfMemory);
         }
+        before = clock.values;
+        rest = clock.rest;
+        line_number = clock.number;
+        first = false;
+        time += 1;
     }
 }
 
