@@ -14,8 +14,8 @@ use Rattle.verilog_text.specs.declared.written.WrittenUpdate.{WrittenUpdate}
 use Rattle.verilog_text.specs.declared.written.WrittenUpdate.TheVariants as update
 use Rattle.verilog_parse.specs.declared.kind.Head.{Head}
 use Rattle.verilog_parse.specs.declared.kind.Head.TheVariants as heads
-use Rattle.verilog_parse.specs.declared.kind.Lead.{Lead}
-use Rattle.verilog_parse.specs.declared.kind.Lead.TheVariants as leads
+use Rattle.verilog_parse.specs.declared.kind.PortLead.{PortLead}
+use Rattle.verilog_parse.specs.declared.kind.PortLead.TheVariants as leads
 use Rattle.verilog_parse.specs.declared.kind.Tail.{Tail}
 use Rattle.verilog_parse.specs.declared.kind.Tail.TheVariants as tails
 use Rattle.verilog_parse.specs.declared.kind.Arrow.{Arrow}
@@ -64,7 +64,7 @@ from_ranged {rest = rest} {n = n} (wide {r = r'} {t = t} b g) =
     let o = opened b in
     (heads.Square, o.inner, (o.open', o.whole, ap (λ k. heading k o.open'.span) o.mark), (r', t ∷ rest, o.bits', (n, rest, (t, refl, g), (refl, refl))))
 
-from_lead : {ts rest : List Token} {r : Option Range} {n : Span} → Ranged ts r n rest → (l : Lead) × (mid : List Token) × One (Gives leading) ts l mid × AfterLead l mid (ranged_name r n) rest
+from_lead : {ts rest : List Token} {r : Option Range} {n : Span} → Ranged ts r n rest → (l : PortLead) × (mid : List Token) × One (Gives leading) ts l mid × AfterLead l mid (ranged_name r n) rest
 from_lead {rest = rest} {n = n} (one_bit {t = t} g) = (leads.Head (heads.Name n), rest, (t, refl, lead_name _ _ _ g), (refl, refl))
 from_lead {rest = rest} {n = n} (wide {r = r'} {t = t} b g) =
     let o = opened b in
@@ -94,7 +94,7 @@ to_head (heads.Name n) t ts mid rest r e g q =
 pub to_ranged : {ts rest : List Token} {r : RangedName} → ARanged ts r rest → Ranged ts r.bits r.name rest
 to_ranged {ts = ts} {rest = rest} {r = r} q = to_head q.0 q.2.0 ts q.1 rest r q.2.1 (head_means _ _ _ q.2.2) q.3
 
-to_lead : (l : Lead) (d : Direction) (k t : Token) (ts tail mid rest : List Token) (r : RangedName) → ts ≡ k ∷ tail → tail ≡ t ∷ mid → directed k.kind ≡ Some d → LeadMeans t.kind t.span l → AfterLead l mid r rest
+to_lead : (l : PortLead) (d : Direction) (k t : Token) (ts tail mid rest : List Token) (r : RangedName) → ts ≡ k ∷ tail → tail ≡ t ∷ mid → directed k.kind ≡ Some d → LeadMeans t.kind t.span l → AfterLead l mid r rest
     → Port ts (record { direction = d; bits = r.bits; name = r.name }) rest
 to_lead leads.Wire d k t ts tail mid rest r e f g h q =
     let whole : ts ≡ k ∷ t ∷ mid = cc (e, f) in

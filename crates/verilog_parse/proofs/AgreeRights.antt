@@ -11,8 +11,8 @@ use Rattle.verilog_text.specs.declared.written.Count.{Count}
 use Rattle.verilog_text.specs.declared.written.WrittenRight.{WrittenRight}
 use Rattle.verilog_text.specs.declared.written.WrittenRight.TheVariants as right
 use Rattle.verilog_text.specs.declared.written.WrittenAssign.{WrittenAssign}
-use Rattle.verilog_parse.specs.declared.kind.Start.{Start}
-use Rattle.verilog_parse.specs.declared.kind.Start.TheVariants as start
+use Rattle.verilog_parse.specs.declared.kind.RightStart.{RightStart}
+use Rattle.verilog_parse.specs.declared.kind.RightStart.TheVariants as start
 use Rattle.verilog_parse.specs.declared.kind.Item.{Item}
 use Rattle.verilog_parse.specs.declared.kind.Item.TheVariants as items
 use Rattle.verilog_parse.specs.declared.kind.Follow.{Follow}
@@ -161,7 +161,7 @@ to_brace (items.Atom x) o k ts b rest r e f g p =
     let whole : ts ≡ o ∷ k ∷ p.2.0 ∷ q.0 ∷ s.2.0 ∷ s.3.0 ∷ rest = cc (e, p.2.1, q.1, s.2.1, s.3.1, p.3.3.3.1) in
     subst (λ y. Right ts y rest) p.3.3.3.0 (rw whole (join f g p.2.2 q.2 s.2.2 s.3.2))
 
-to_start : (c : Start) (v : Token) (ts b rest : List Token) (r : WrittenRight) → ts ≡ v ∷ b → StartMeans v.kind v.span c → AfterStart c b r rest → Right ts r rest
+to_start : (c : RightStart) (v : Token) (ts b rest : List Token) (r : WrittenRight) → ts ≡ v ∷ b → StartMeans v.kind v.span c → AfterStart c b r rest → Right ts r rest
 to_start start.Tilde v ts b rest r e g p =
     let q = p.2 in
     let whole : ts ≡ v ∷ q.2.0 ∷ q.3.2.0 ∷ rest = cc (e, q.2.1, q.3.2.1, q.3.3.1, p.3.1) in

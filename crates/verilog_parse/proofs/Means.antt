@@ -10,16 +10,16 @@ use Rattle.verilog_text.specs.declared.token.Keyword.TheVariants as keyword
 use Rattle.verilog_text.specs.declared.token.TokenKind.{TokenKind}
 use Rattle.verilog_text.specs.declared.token.TokenKind.TheVariants as kind
 use Rattle.verilog_text.specs.declared.written.Count.{Count}
-use Rattle.verilog_parse.specs.declared.kind.Start.{Start}
-use Rattle.verilog_parse.specs.declared.kind.Start.TheVariants as start
+use Rattle.verilog_parse.specs.declared.kind.RightStart.{RightStart}
+use Rattle.verilog_parse.specs.declared.kind.RightStart.TheVariants as start
 use Rattle.verilog_parse.specs.declared.kind.Item.{Item}
 use Rattle.verilog_parse.specs.declared.kind.Item.TheVariants as items
 use Rattle.verilog_parse.specs.declared.kind.Follow.{Follow}
 use Rattle.verilog_parse.specs.declared.kind.Follow.TheVariants as follow
 use Rattle.verilog_parse.specs.declared.kind.Head.{Head}
 use Rattle.verilog_parse.specs.declared.kind.Head.TheVariants as heads
-use Rattle.verilog_parse.specs.declared.kind.Lead.{Lead}
-use Rattle.verilog_parse.specs.declared.kind.Lead.TheVariants as leads
+use Rattle.verilog_parse.specs.declared.kind.PortLead.{PortLead}
+use Rattle.verilog_parse.specs.declared.kind.PortLead.TheVariants as leads
 use Rattle.verilog_parse.specs.declared.kind.Tail.{Tail}
 use Rattle.verilog_parse.specs.declared.kind.Tail.TheVariants as tails
 use Rattle.verilog_parse.specs.declared.kind.Arrow.{Arrow}
@@ -32,7 +32,7 @@ use Rattle.verilog_text.specs.Grammar.{named, atomic, counted, binary}
 use Rattle.verilog_parse.specs.Forms.{starting, item, following, square, colon_or_close}
 use Rattle.verilog_parse.specs.Sections.{comma_or_close, heading, leading, tailing, arrowing, targeting, section_of, statement_of, last_of}
 
-abbrev pub StartMeans : TokenKind → Span → Start → Type 0
+abbrev pub StartMeans : TokenKind → Span → RightStart → Type 0
 StartMeans k s start.Tilde = k ≡ kind.Symbol symbol.Tilde
 StartMeans k s start.Brace = k ≡ kind.Symbol symbol.OpenBrace
 StartMeans k s (start.Atom x) = atomic k s ≡ Some x
@@ -59,7 +59,7 @@ abbrev pub HeadMeans : TokenKind → Span → Head → Type 0
 HeadMeans k s heads.Square = k ≡ kind.Symbol symbol.OpenSquare
 HeadMeans k s (heads.Name n) = named k s ≡ Some n
 
-abbrev pub LeadMeans : TokenKind → Span → Lead → Type 0
+abbrev pub LeadMeans : TokenKind → Span → PortLead → Type 0
 LeadMeans k s leads.Wire = k ≡ kind.Keyword keyword.Wire
 LeadMeans k s (leads.Head h) = HeadMeans k s h
 
@@ -82,7 +82,7 @@ SectionMeans k sections.Assign = k ≡ kind.Keyword keyword.Assign
 SectionMeans k sections.Always = k ≡ kind.Keyword keyword.Always
 SectionMeans k sections.End = k ≡ kind.Keyword keyword.EndModule
 
-pub start_means : (k : TokenKind) (s : Span) (v : Start) → starting k s ≡ Some v → StartMeans k s v
+pub start_means : (k : TokenKind) (s : Span) (v : RightStart) → starting k s ≡ Some v → StartMeans k s v
 start_means kind.Name s v e = subst (λ x. StartMeans kind.Name s x) (same_Some _ _ e) refl
 start_means kind.Clock s v e = subst (λ x. StartMeans kind.Clock s x) (same_Some _ _ e) refl
 start_means kind.Refused s v e = absurd (cc)
@@ -256,7 +256,7 @@ head_means (kind.Symbol symbol.Caret) s v e = absurd (cc)
 head_means (kind.Symbol symbol.Tilde) s v e = absurd (cc)
 head_means (kind.Symbol symbol.At) s v e = absurd (cc)
 
-pub lead_means : (k : TokenKind) (s : Span) (v : Lead) → leading k s ≡ Some v → LeadMeans k s v
+pub lead_means : (k : TokenKind) (s : Span) (v : PortLead) → leading k s ≡ Some v → LeadMeans k s v
 lead_means kind.Name s v e = subst (λ x. LeadMeans kind.Name s x) (same_Some _ _ e) refl
 lead_means kind.Clock s v e = subst (λ x. LeadMeans kind.Clock s x) (same_Some _ _ e) refl
 lead_means kind.Refused s v e = absurd (cc)

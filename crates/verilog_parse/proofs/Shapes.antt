@@ -9,16 +9,16 @@ use Rattle.verilog_text.specs.declared.token.Keyword.{Keyword}
 use Rattle.verilog_text.specs.declared.token.Keyword.TheVariants as keyword
 use Rattle.verilog_text.specs.declared.token.TokenKind.TheVariants as kind
 use Rattle.verilog_text.specs.declared.written.Count.{Count}
-use Rattle.verilog_parse.specs.declared.kind.Start.{Start}
-use Rattle.verilog_parse.specs.declared.kind.Start.TheVariants as start
+use Rattle.verilog_parse.specs.declared.kind.RightStart.{RightStart}
+use Rattle.verilog_parse.specs.declared.kind.RightStart.TheVariants as start
 use Rattle.verilog_parse.specs.declared.kind.Item.{Item}
 use Rattle.verilog_parse.specs.declared.kind.Item.TheVariants as items
 use Rattle.verilog_parse.specs.declared.kind.Follow.{Follow}
 use Rattle.verilog_parse.specs.declared.kind.Follow.TheVariants as follow
 use Rattle.verilog_parse.specs.declared.kind.Head.{Head}
 use Rattle.verilog_parse.specs.declared.kind.Head.TheVariants as heads
-use Rattle.verilog_parse.specs.declared.kind.Lead.{Lead}
-use Rattle.verilog_parse.specs.declared.kind.Lead.TheVariants as leads
+use Rattle.verilog_parse.specs.declared.kind.PortLead.{PortLead}
+use Rattle.verilog_parse.specs.declared.kind.PortLead.TheVariants as leads
 use Rattle.verilog_parse.specs.declared.kind.Tail.{Tail}
 use Rattle.verilog_parse.specs.declared.kind.Tail.TheVariants as tails
 use Rattle.verilog_parse.specs.declared.kind.Arrow.{Arrow}
@@ -80,7 +80,7 @@ pub after_brace : (i : Item) → Clear (AfterBrace i)
 after_brace (items.Count n) = clear_then (sign symbol.OpenBrace) (λ u. clear_then (closed symbol.CloseBrace) (λ a. clear_then (ended symbol.CloseBrace) (λ x. clear_done _)))
 after_brace (items.Atom a) = clear_then (sign symbol.Comma) (λ u. clear_then atomic (λ b. clear_then (ended symbol.CloseBrace) (λ x. clear_done _)))
 
-pub after_start : (s : Start) → Clear (AfterStart s)
+pub after_start : (s : RightStart) → Clear (AfterStart s)
 after_start start.Tilde = clear_then (closed symbol.Semicolon) (λ a. clear_done _)
 after_start start.Brace = clear_then (clear_one F.item_class) (λ i. after_brace i)
 after_start (start.Atom a) = clear_then (clear_one (F.follow_class a)) (λ f. after_atom a f)
@@ -101,7 +101,7 @@ after_head (heads.Name n) = clear_done _
 pub ranged : Clear ARanged
 ranged = clear_then (clear_one F.head_class) (λ h. after_head h)
 
-pub after_lead : (l : Lead) → Clear (AfterLead l)
+pub after_lead : (l : PortLead) → Clear (AfterLead l)
 after_lead leads.Wire = ranged
 after_lead (leads.Head h) = after_head h
 

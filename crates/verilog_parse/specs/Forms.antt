@@ -16,8 +16,8 @@ use Rattle.verilog_text.specs.declared.written.WrittenRight.{WrittenRight}
 use Rattle.verilog_text.specs.declared.written.WrittenRight.TheVariants as right
 use Rattle.verilog_text.specs.declared.written.WrittenAssign.{WrittenAssign}
 use Rattle.verilog_text.specs.Grammar.{named, atomic, counted}
-use Rattle.verilog_parse.specs.declared.kind.Start.{Start}
-use Rattle.verilog_parse.specs.declared.kind.Start.TheVariants as start
+use Rattle.verilog_parse.specs.declared.kind.RightStart.{RightStart}
+use Rattle.verilog_parse.specs.declared.kind.RightStart.TheVariants as start
 use Rattle.verilog_parse.specs.declared.kind.Item.{Item}
 use Rattle.verilog_parse.specs.declared.kind.Item.TheVariants as items
 use Rattle.verilog_parse.specs.declared.kind.Follow.{Follow}
@@ -42,12 +42,12 @@ Is k t u = t.kind ≡ k
 abbrev pub Gives : {V : Type 0} → (TokenKind → Span → Option V) → Token → V → Type 0
 Gives f t v = f t.kind t.span ≡ Some v
 
-abbrev pub opening : Symbol → Option Start
+abbrev pub opening : Symbol → Option RightStart
 opening symbol.Tilde = Some start.Tilde
 opening symbol.OpenBrace = Some start.Brace
 opening _ = None
 
-abbrev pub starting : TokenKind → Span → Option Start
+abbrev pub starting : TokenKind → Span → Option RightStart
 starting (kind.Symbol x) s = opening x
 starting kind.Name s = Some (start.Atom (atom.Net s))
 starting kind.Clock s = Some (start.Atom (atom.Net s))
@@ -127,7 +127,7 @@ abbrev pub AfterBrace : Item → Phrases Token WrittenRight
 AfterBrace (items.Count n) = Then (Sign symbol.OpenBrace) (λ _. Then (Closed symbol.CloseBrace) (λ a. Then (Ended symbol.CloseBrace) (λ _. Done (right.Repeat n a))))
 AfterBrace (items.Atom a) = Then (Sign symbol.Comma) (λ _. Then AnAtom (λ b. Then (Ended symbol.CloseBrace) (λ _. Done (right.Join a b))))
 
-abbrev pub AfterStart : Start → Phrases Token WrittenRight
+abbrev pub AfterStart : RightStart → Phrases Token WrittenRight
 AfterStart start.Tilde = Then (Closed symbol.Semicolon) (λ a. Done (right.Not a))
 AfterStart start.Brace = Then (One (Gives item)) (λ i. AfterBrace i)
 AfterStart (start.Atom a) = Then (One (Gives (λ k s. following a k))) (λ f. AfterAtom a f)

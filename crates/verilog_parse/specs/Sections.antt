@@ -18,8 +18,8 @@ use Rattle.verilog_text.specs.declared.written.Written.{Written}
 use Rattle.verilog_text.specs.Grammar.{directed, Source}
 use Rattle.verilog_parse.specs.declared.kind.Head.{Head}
 use Rattle.verilog_parse.specs.declared.kind.Head.TheVariants as heads
-use Rattle.verilog_parse.specs.declared.kind.Lead.{Lead}
-use Rattle.verilog_parse.specs.declared.kind.Lead.TheVariants as leads
+use Rattle.verilog_parse.specs.declared.kind.PortLead.{PortLead}
+use Rattle.verilog_parse.specs.declared.kind.PortLead.TheVariants as leads
 use Rattle.verilog_parse.specs.declared.kind.RangedName.{RangedName}
 use Rattle.verilog_parse.specs.declared.kind.Tail.{Tail}
 use Rattle.verilog_parse.specs.declared.kind.Tail.TheVariants as tails
@@ -42,7 +42,7 @@ heading kind.Name s = Some (heads.Name s)
 heading kind.Clock s = Some (heads.Name s)
 heading _ s = None
 
-abbrev pub leading : TokenKind → Span → Option Lead
+abbrev pub leading : TokenKind → Span → Option PortLead
 leading (kind.Keyword keyword.Wire) s = Some leads.Wire
 leading (kind.Symbol symbol.OpenSquare) s = Some (leads.Head heads.Square)
 leading kind.Name s = Some (leads.Head (heads.Name s))
@@ -103,7 +103,7 @@ AfterHead (heads.Name n) = Done (record { bits = None; name = n })
 abbrev pub ARanged : Phrases Token RangedName
 ARanged = Then (One (Gives heading)) (λ h. AfterHead h)
 
-abbrev pub AfterLead : Lead → Phrases Token RangedName
+abbrev pub AfterLead : PortLead → Phrases Token RangedName
 AfterLead leads.Wire = ARanged
 AfterLead (leads.Head h) = AfterHead h
 

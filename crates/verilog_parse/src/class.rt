@@ -8,7 +8,7 @@ ghost use Rattle.verilog_parse.specs.Forms.{Halts, Is, Gives, Reads, starting as
 ghost use Rattle.verilog_parse.specs.Sections.{comma_or_close as comma_or_close_of, heading as heading_of, leading as leading_of, tailing as tailing_of, arrowing as arrowing_of, targeting as targeting_of, section_of, section_after as section_after_of, is_last};
 
 use crate::halt::Halt;
-use crate::kind::{Arrow, Follow, Head, Item, Lead, Section, Start, Tail, Target};
+use crate::kind::{Arrow, Follow, Head, Item, PortLead, RightStart, Section, Tail, Target};
 use crate::table;
 use dk_base::Span;
 use netlist::Direction;
@@ -59,7 +59,7 @@ pub(crate) fn count(tokens: &mut Tokens<'_>) -> Result<Count, Halt>
 }
 
 // What a right side begins with.
-pub(crate) fn start(tokens: &mut Tokens<'_>) -> Result<Start, Halt>
+pub(crate) fn start(tokens: &mut Tokens<'_>) -> Result<RightStart, Halt>
     ensures parsed { Reads (One (Gives starting_of)) tokens.old tokens.new result }
 {
     let token = tokens.peek();
@@ -157,7 +157,7 @@ pub(crate) fn head(tokens: &mut Tokens<'_>) -> Result<Head, Halt>
 }
 
 // What follows the direction of a port.
-pub(crate) fn lead(tokens: &mut Tokens<'_>) -> Result<Lead, Halt>
+pub(crate) fn lead(tokens: &mut Tokens<'_>) -> Result<PortLead, Halt>
     ensures parsed { Reads (One (Gives leading_of)) tokens.old tokens.new result }
 {
     let token = tokens.peek();

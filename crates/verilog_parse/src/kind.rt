@@ -6,7 +6,7 @@ use wiring::{Atom, Operator};
 
 // What a right side begins with.
 #[derive(Clone, Copy, Drop)]
-pub(crate) enum Start {
+pub(crate) enum RightStart {
     Tilde,
     Brace,
     Atom(Atom<Span>),
@@ -37,7 +37,7 @@ pub(crate) enum Head {
 
 // What follows the direction of a port.
 #[derive(Clone, Copy, Drop)]
-pub(crate) enum Lead {
+pub(crate) enum PortLead {
     Wire,
     Head(Head),
 }

@@ -6,7 +6,7 @@ ghost use Rattle.verilog_parse.specs.Sections.{ABits, AfterHead, ARanged, AfterL
 
 use crate::class;
 use crate::halt::Halt;
-use crate::kind::{Head, Lead, RangedName};
+use crate::kind::{Head, PortLead, RangedName};
 use std::alloc::Global;
 use verilog_lexer::Tokens;
 use verilog_text::{Range, Symbol, WrittenPort};
@@ -47,15 +47,15 @@ pub(crate) fn ranged(tokens: &mut Tokens<'_>) -> Result<RangedName, Halt>
     Ok(name)
 }
 
-fn after_lead(lead: Lead, tokens: &mut Tokens<'_>) -> Result<RangedName, Halt>
+fn after_lead(lead: PortLead, tokens: &mut Tokens<'_>) -> Result<RangedName, Halt>
     ensures parsed { Reads (AfterLead lead) tokens.old tokens.new result }
 {
     match lead {
-        Lead::Wire => {
+        PortLead::Wire => {
             let name = ranged(tokens)?;
             Ok(name)
         }
-        Lead::Head(head) => {
+        PortLead::Head(head) => {
             let name = after_head(head, tokens)?;
             Ok(name)
         }

@@ -5,7 +5,7 @@ ghost use Rattle.verilog_parse.specs.Forms.{Closed, Ended, AfterFirst, AfterItem
 
 use crate::class;
 use crate::halt::Halt;
-use crate::kind::{Follow, Item, Start};
+use crate::kind::{Follow, Item, RightStart};
 use dk_base::Span;
 use verilog_lexer::Tokens;
 use verilog_text::{Count, Symbol, WrittenAssign, WrittenRight};
@@ -112,20 +112,20 @@ fn after_brace(item: Item, tokens: &mut Tokens<'_>) -> Result<WrittenRight, Halt
     }
 }
 
-fn after_start(start: Start, tokens: &mut Tokens<'_>) -> Result<WrittenRight, Halt>
+fn after_start(start: RightStart, tokens: &mut Tokens<'_>) -> Result<WrittenRight, Halt>
     ensures parsed { Reads (AfterStart start) tokens.old tokens.new result }
 {
     match start {
-        Start::Tilde => {
+        RightStart::Tilde => {
             let atom = closed(Symbol::Semicolon, tokens)?;
             Ok(WrittenRight::Not(atom))
         }
-        Start::Brace => {
+        RightStart::Brace => {
             let item = class::item(tokens)?;
             let right = after_brace(item, tokens)?;
             Ok(right)
         }
-        Start::Atom(first) => {
+        RightStart::Atom(first) => {
             let follow = class::follow(&first, tokens)?;
             let right = after_atom(first, follow, tokens)?;
             Ok(right)

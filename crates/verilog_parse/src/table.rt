@@ -5,7 +5,7 @@ ghost use Rattle.verilog_text.specs.Grammar.{named as named_of, atomic as atomic
 ghost use Rattle.verilog_parse.specs.Forms.{opening as opening_of, starting as starting_of, item as item_of, following as following_of, colon_or_close as colon_or_close_of};
 ghost use Rattle.verilog_parse.specs.Sections.{comma_or_close as comma_or_close_of, heading as heading_of, leading as leading_of, tailing as tailing_of, arrowing as arrowing_of, targeting as targeting_of, section_of, statement_of, last_of, section_after as section_after_of};
 
-use crate::kind::{Arrow, Follow, Head, Item, Lead, Section, Start, Tail, Target};
+use crate::kind::{Arrow, Follow, Head, Item, PortLead, RightStart, Section, Tail, Target};
 use dk_base::Span;
 use netlist::Direction;
 use verilog_text::{Count, Keyword, Symbol, TokenKind};
@@ -51,24 +51,24 @@ pub(crate) fn directed(kind: TokenKind) -> Option<Direction>
     }
 }
 
-fn opening(symbol: Symbol) -> Option<Start>
+fn opening(symbol: Symbol) -> Option<RightStart>
     ensures { result ≡ opening_of symbol }
 {
     match symbol {
-        Symbol::Tilde => Some(Start::Tilde),
-        Symbol::OpenBrace => Some(Start::Brace),
+        Symbol::Tilde => Some(RightStart::Tilde),
+        Symbol::OpenBrace => Some(RightStart::Brace),
         _ => None,
     }
 }
 
-pub(crate) fn starting(kind: TokenKind, span: Span) -> Option<Start>
+pub(crate) fn starting(kind: TokenKind, span: Span) -> Option<RightStart>
     ensures { result ≡ starting_of kind span }
 {
     match kind {
         TokenKind::Symbol(symbol) => opening(symbol),
-        TokenKind::Name => Some(Start::Atom(Atom::Net(span))),
-        TokenKind::Clock => Some(Start::Atom(Atom::Net(span))),
-        TokenKind::Sized(constant) => Some(Start::Atom(Atom::Constant(constant))),
+        TokenKind::Name => Some(RightStart::Atom(Atom::Net(span))),
+        TokenKind::Clock => Some(RightStart::Atom(Atom::Net(span))),
+        TokenKind::Sized(constant) => Some(RightStart::Atom(Atom::Constant(constant))),
         _ => None,
     }
 }
@@ -139,14 +139,14 @@ pub(crate) fn heading(kind: TokenKind, span: Span) -> Option<Head>
     }
 }
 
-pub(crate) fn leading(kind: TokenKind, span: Span) -> Option<Lead>
+pub(crate) fn leading(kind: TokenKind, span: Span) -> Option<PortLead>
     ensures { result ≡ leading_of kind span }
 {
     match kind {
-        TokenKind::Keyword(Keyword::Wire) => Some(Lead::Wire),
-        TokenKind::Symbol(Symbol::OpenSquare) => Some(Lead::Head(Head::Square)),
-        TokenKind::Name => Some(Lead::Head(Head::Name(span))),
-        TokenKind::Clock => Some(Lead::Head(Head::Name(span))),
+        TokenKind::Keyword(Keyword::Wire) => Some(PortLead::Wire),
+        TokenKind::Symbol(Symbol::OpenSquare) => Some(PortLead::Head(Head::Square)),
+        TokenKind::Name => Some(PortLead::Head(Head::Name(span))),
+        TokenKind::Clock => Some(PortLead::Head(Head::Name(span))),
         _ => None,
     }
 }
