@@ -4,7 +4,7 @@ ghost use Rattle.std.specs.Prelude.{◌≡◌, ◌<◌, length, false, IsTrue, I
 ghost use Rattle.wiring.specs.Rights.{nets_of};
 ghost use Rattle.batch_rows.specs.Code.{IsOrdered};
 ghost use Rattle.wiring.specs.declared.right.Atom.TheVariants.{Net};
-ghost use Rattle.wiring.specs.declared.right.Right.TheVariants.{Copy, Join};
+ghost use Rattle.wiring.specs.declared.right.Right.TheVariants.{Choose, Copy, Join};
 ghost use Rattle.batch_rows.specs.Seen.{AreMarked, GoesOn, IsOrderedUpTo};
 
 use crate::code::Instruction;
@@ -41,6 +41,15 @@ fn mark_two(seen: &mut [bool], a: &Atom<usize>, b: &Atom<usize>) -> bool
     mark_atom(seen, b)
 }
 
+fn mark_three(seen: &mut [bool], c: &Atom<usize>, a: &Atom<usize>, b: &Atom<usize>) -> bool
+    ensures { AreMarked seen.old seen.new result (Choose c.now a.now b.now) }
+{
+    if !mark_atom(seen, c) {
+        return false;
+    }
+    mark_two(seen, a, b)
+}
+
 fn mark_right(seen: &mut [bool], right: &Right<usize, usize>) -> bool
     ensures { AreMarked seen.old seen.new result right.now }
 {
@@ -48,12 +57,7 @@ fn mark_right(seen: &mut [bool], right: &Right<usize, usize>) -> bool
         Right::Copy(a) => mark_atom(seen, a),
         Right::Not(a) => mark_atom(seen, a),
         Right::Binary(_, a, b) => mark_two(seen, a, b),
-        Right::Choose(c, a, b) => {
-            if !mark_atom(seen, c) {
-                return false;
-            }
-            mark_two(seen, a, b)
-        }
+        Right::Choose(c, a, b) => mark_three(seen, c, a, b),
         Right::Join(a, b) => mark_two(seen, a, b),
         Right::Repeat(_, a) => mark_atom(seen, a),
         Right::Bit(v, _) => mark(seen, *v),

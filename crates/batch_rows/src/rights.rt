@@ -10,7 +10,9 @@ ghost use Rattle.batch_rows.specs.Rights.{HasRow, IsOperand, IsAtomRow, HaveRoom
 
 use crate::choices::{choose_number_row, choose_or_number_row, choose_row};
 use crate::pairs::{join_number_row, join_row, operator_number_row, operator_row};
-use crate::singles::{Part, Turned, Whole, constant_row, lane_of, mask_of, repeat_row, single_row};
+use crate::singles::{
+    MaskedBits, Turned, Whole, constant_row, lane_of, mask_of, repeat_row, single_row,
+};
 use lane_rows::{Lane, Numbers, Row, copy_words, first_numbers, first_of, widen_row};
 use std::alloc::{AllocError, Global};
 use wiring::{Atom, Constant, Operator, Right, Width};
@@ -191,17 +193,15 @@ pub fn note_atom<'a, L: Lane>(operand: &Operand<'a>, spare: &mut [L]) -> Option<
     ensures own { IfSome result (λ r. IsRowOfOperand L.value operand.now r.now) }
     ensures filled { IfNone result (IsFilled L.value operand.now spare.new) }
 {
-    match own_row(operand.rows, operand.atom, operand.count) {
-        Some(row) => Some(row),
-        None => {
-            fill_atom(
-                operand.rows,
-                spare.split_at_mut(operand.count).0,
-                operand.atom,
-            );
-            None
-        }
+    if let Some(row) = own_row(operand.rows, operand.atom, operand.count) {
+        return Some(row);
     }
+    fill_atom(
+        operand.rows,
+        spare.split_at_mut(operand.count).0,
+        operand.atom,
+    );
+    None
 }
 
 /// The row of an atom: its own one, or the spare row.
@@ -470,7 +470,7 @@ fn part_row<L: Lane>(rows: &[Row], spare: &mut [L], slot: usize, from: u8, width
     };
     let own = note_atom(&operand, spare);
     let row = atom_row(&operand, own, spare);
-    single_row(&Part { from, mask }, to, row);
+    single_row(&MaskedBits { from, mask }, to, row);
 }
 
 // A number above an atom.

@@ -52,12 +52,12 @@ impl<L: Lane> Single<L> for Turned<L> {
 
 // The bits of a mask, from a place on.
 #[derive(Clone, Copy)]
-pub(crate) struct Part<L> {
+pub(crate) struct MaskedBits<L> {
     pub(crate) from: u8,
     pub(crate) mask: L,
 }
 
-impl<L: Lane> Single<L> for Part<L> {
+impl<L: Lane> Single<L> for MaskedBits<L> {
     ghost value = { λ s a. bit_and (a / 2 ^ (s.from % L.bits)) (L.value s.mask) };
 
     fn of(&self, a: L) -> L {
@@ -67,11 +67,11 @@ impl<L: Lane> Single<L> for Part<L> {
 
 // This many times a number.
 #[derive(Clone, Copy)]
-pub(crate) struct Times<L> {
+pub(crate) struct Multiplied<L> {
     pub(crate) factor: L,
 }
 
-impl<L: Lane> Single<L> for Times<L> {
+impl<L: Lane> Single<L> for Multiplied<L> {
     ghost value = { λ s a. a * L.value s.factor % 2 ^ L.bits };
 
     fn of(&self, a: L) -> L {
@@ -134,7 +134,7 @@ pub(crate) fn repeat_row<L: Lane>(copies: u8, width: u8, to: &mut [L], a: &[L])
 {
     let _bits = L::bits();
     let factor = L::cut(factor(copies, width));
-    single_row(&Times { factor }, to, a);
+    single_row(&Multiplied { factor }, to, a);
 }
 
 // At each clock the same number.
