@@ -43,16 +43,14 @@ fn goes_on(alloc: Global, tokens: &[Token]) -> Result<bool, OutOfMemory>
 fn push_end(tokens: &mut Vec<Token>, class: TokenClass) -> Result<(), OutOfMemory>
     ensures { OnOk result (tokens.new.items ≡ tokens.old.items ++ behind class) }
 {
-    match class {
-        TokenClass::EndOfText => Ok(()),
-        _ => {
-            tokens.push(Token {
-                span: BEHIND,
-                kind: TokenKind::End,
-            })?;
-            Ok(())
-        }
+    if let TokenClass::EndOfText = class {
+        return Ok(());
     }
+    tokens.push(Token {
+        span: BEHIND,
+        kind: TokenKind::End,
+    })?;
+    Ok(())
 }
 
 // Adds the token that is tried, and the end after it.

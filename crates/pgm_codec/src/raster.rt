@@ -151,15 +151,10 @@ pub fn check_row(header: &Header, bytes: &[u8], row: u32, got: usize) -> Result<
         Some(column) => Err(RasterFault::SampleTooGreat {
             index: row as usize * header.width as usize + column,
         }),
-        None => {
-            if got < bytes.len() {
-                Err(RasterFault::Short {
-                    held: u128::from(row) * bytes.len() as u128 + got as u128,
-                    need: raster_length(header),
-                })
-            } else {
-                Ok(())
-            }
-        }
+        None if got < bytes.len() => Err(RasterFault::Short {
+            held: u128::from(row) * bytes.len() as u128 + got as u128,
+            need: raster_length(header),
+        }),
+        None => Ok(()),
     }
 }

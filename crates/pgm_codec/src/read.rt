@@ -50,13 +50,8 @@ fn answer_of(reading: Reading) -> Scan
     match reading.stage {
         Stage::Whole => ranged(reading),
         Stage::Lost => Scan::Fault(fault_at(reading.length)),
-        _ => {
-            if reading.length < MAX_HEADER_BYTES {
-                Scan::More
-            } else {
-                Scan::Fault(HeaderFault::LongHeader)
-            }
-        }
+        _ if reading.length < MAX_HEADER_BYTES => Scan::More,
+        _ => Scan::Fault(HeaderFault::LongHeader),
     }
 }
 

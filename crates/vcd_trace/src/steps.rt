@@ -117,16 +117,15 @@ fn read_clock<'a>(
             width: *width,
             value,
         };
-        match read_value(line, before.first, variable, rest, line_number) {
+        let read = match read_value(line, before.first, variable, rest, line_number) {
             Err(fault) => return Err(fault),
-            Ok(read) => {
-                if values.push(read.value).is_err() {
-                    return Err(VcdError::OutOfMemory);
-                }
-                rest = read.rest;
-                line_number = read.number;
-            }
+            Ok(read) => read,
+        };
+        if values.push(read.value).is_err() {
+            return Err(VcdError::OutOfMemory);
         }
+        rest = read.rest;
+        line_number = read.number;
     }
     Ok(ReadClock {
         values,
