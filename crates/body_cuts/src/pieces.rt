@@ -2,7 +2,7 @@
 
 use crate::names::{END_OF_NUMBERS, NamedProgram, is_taken};
 use crate::repeats::{Shift, are_equal, shared_shift};
-use body_terms::{Binding, Part, Term, numbered, piece_read, push_read};
+use body_terms::{Part, Precedence, Term, numbered, piece_read, push_read};
 use dk_base::{MAX_DEFINITIONS, MAX_NAME_BYTES, OutOfMemory};
 use std::alloc::Global;
 
@@ -154,7 +154,7 @@ pub(crate) fn offset_read(
     }
     Ok(Part {
         text,
-        binding: Binding::Primary,
+        binding: Precedence::Primary,
         levels: Some(levels),
     })
 }

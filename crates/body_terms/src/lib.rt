@@ -10,7 +10,7 @@ mod words;
 pub use levels::{only_widens, own_levels};
 pub use moves::{MoveFault, framed, is_cut_off, moved};
 pub use part::{
-    Binding, Part, binary, converted, most_levels, number, piece_read, scaled, selected, unary,
+    Part, Precedence, binary, converted, most_levels, number, piece_read, scaled, selected, unary,
 };
 pub use term::{PixelRead, Term, TermNode, boxed, is_constant, node_count};
 pub use words::{numbered, push_number, push_read, push_type};

@@ -7,7 +7,7 @@ use std::alloc::Global;
 
 /// The levels of precedence, from the highest.
 #[derive(Clone, Copy, PartialEq, Eq, PartialOrd, Ord)]
-pub enum Binding {
+pub enum Precedence {
     Primary,
     Prefix,
     Cast,
@@ -24,7 +24,7 @@ pub enum Binding {
 #[derive(Drop)]
 pub struct Part {
     pub text: Vec<u8>,
-    pub binding: Binding,
+    pub binding: Precedence,
     /// The levels of operators. None if it has no read.
     pub levels: Option<u32>,
 }
@@ -33,9 +33,9 @@ pub struct Part {
 #[derive(Clone, Copy)]
 struct Infix {
     word: &'static str,
-    binding: Binding,
-    left: Binding,
-    right: Binding,
+    binding: Precedence,
+    left: Precedence,
+    right: Precedence,
 }
 
 // How an operator of two operands is written.
@@ -55,7 +55,7 @@ pub fn most_levels(one: Option<u32>, other: Option<u32>) -> Option<u32> {
 }
 
 // The text of an operand, in brackets if it binds less tightly than `loosest`.
-fn operand(alloc: Global, part: Part, loosest: Binding) -> Result<Vec<u8>, OutOfMemory> {
+fn operand(alloc: Global, part: Part, loosest: Precedence) -> Result<Vec<u8>, OutOfMemory> {
     if part.binding <= loosest {
         return Ok(part.text);
     }
@@ -98,20 +98,20 @@ fn function(alloc: Global, keyword: Keyword, operands: &[&[u8]]) -> Result<Vec<u
 fn primary(text: Vec<u8>, levels: Option<u32>) -> Part {
     Part {
         text,
-        binding: Binding::Primary,
+        binding: Precedence::Primary,
         levels,
     }
 }
 
 fn prefixed(alloc: Global, sign: u8, a: Part) -> Result<Part, OutOfMemory> {
     let levels = a.levels;
-    let inner = operand(alloc, a, Binding::Primary)?;
+    let inner = operand(alloc, a, Precedence::Primary)?;
     let mut text = Vec::new(alloc);
     text.push(sign)?;
     text.extend_from_slice(&inner)?;
     Ok(Part {
         text,
-        binding: Binding::Prefix,
+        binding: Precedence::Prefix,
         levels,
     })
 }
@@ -129,7 +129,7 @@ pub fn unary(alloc: Global, operator: Unary, a: Part) -> Result<Part, OutOfMemor
 }
 
 // An operator whose operands group to the left.
-fn grouping(word: &'static str, binding: Binding, right: Binding) -> Spelling {
+fn grouping(word: &'static str, binding: Precedence, right: Precedence) -> Spelling {
     Spelling::Between(Infix {
         word,
         binding,
@@ -142,26 +142,26 @@ fn grouping(word: &'static str, binding: Binding, right: Binding) -> Spelling {
 fn comparing(word: &'static str) -> Spelling {
     Spelling::Between(Infix {
         word,
-        binding: Binding::Comparison,
-        left: Binding::Or,
-        right: Binding::Or,
+        binding: Precedence::Comparison,
+        left: Precedence::Or,
+        right: Precedence::Or,
     })
 }
 
 fn spelling_of(operator: Binary) -> Spelling {
     match operator {
-        Binary::Add => grouping(" + ", Binding::Sum, Binding::Product),
-        Binary::Subtract => grouping(" - ", Binding::Sum, Binding::Product),
-        Binary::Multiply => grouping(" * ", Binding::Product, Binding::Cast),
+        Binary::Add => grouping(" + ", Precedence::Sum, Precedence::Product),
+        Binary::Subtract => grouping(" - ", Precedence::Sum, Precedence::Product),
+        Binary::Multiply => grouping(" * ", Precedence::Product, Precedence::Cast),
         Binary::Less => comparing(" < "),
         Binary::LessOrEqual => comparing(" <= "),
         Binary::Greater => comparing(" > "),
         Binary::GreaterOrEqual => comparing(" >= "),
         Binary::Equal => comparing(" == "),
         Binary::NotEqual => comparing(" != "),
-        Binary::And => grouping(" & ", Binding::And, Binding::Shift),
-        Binary::Or => grouping(" | ", Binding::Or, Binding::Xor),
-        Binary::Xor => grouping(" ^ ", Binding::Xor, Binding::And),
+        Binary::And => grouping(" & ", Precedence::And, Precedence::Shift),
+        Binary::Or => grouping(" | ", Precedence::Or, Precedence::Xor),
+        Binary::Xor => grouping(" ^ ", Precedence::Xor, Precedence::And),
         Binary::Min => Spelling::Function(Keyword::Min),
         Binary::Max => Spelling::Function(Keyword::Max),
     }
@@ -195,7 +195,7 @@ pub fn binary(alloc: Global, operator: Binary, a: Part, b: Part) -> Result<Part,
 fn suffixed(
     alloc: Global,
     word: &str,
-    binding: Binding,
+    binding: Precedence,
     a: Part,
     by: u64,
 ) -> Result<Part, OutOfMemory> {
@@ -213,20 +213,20 @@ fn suffixed(
 /// An operator, its operand and its number.
 pub fn scaled(alloc: Global, operator: Scaling, a: Part, by: u64) -> Result<Part, OutOfMemory> {
     match operator {
-        Scaling::Divide => suffixed(alloc, " / ", Binding::Product, a, by),
-        Scaling::ShiftLeft => suffixed(alloc, " << ", Binding::Shift, a, by),
-        Scaling::ShiftRight => suffixed(alloc, " >> ", Binding::Shift, a, by),
+        Scaling::Divide => suffixed(alloc, " / ", Precedence::Product, a, by),
+        Scaling::ShiftLeft => suffixed(alloc, " << ", Precedence::Shift, a, by),
+        Scaling::ShiftRight => suffixed(alloc, " >> ", Precedence::Shift, a, by),
     }
 }
 
 fn cast(alloc: Global, a: Part, ty: Ty) -> Result<Part, OutOfMemory> {
     let levels = a.levels;
-    let mut text = operand(alloc, a, Binding::Cast)?;
+    let mut text = operand(alloc, a, Precedence::Cast)?;
     text.extend_from_slice(b" as ")?;
     push_type(&mut text, ty)?;
     Ok(Part {
         text,
-        binding: Binding::Cast,
+        binding: Precedence::Cast,
         levels,
     })
 }
