@@ -10,7 +10,7 @@ use Rattle.dk_types.specs.Typed.{Definition, definition_of, Typing, TypedProgram
 use Rattle.dk_types.specs.Kept.{IsTyped}
 use Rattle.pointwise_ir.specs.Trees.{Tree, depth_of}
 use Rattle.pointwise_ir.proofs.Defined.{last_entry}
-use Rattle.dk_inline.specs.declared.extent.Extent.{Extent}
+use Rattle.dk_inline.specs.declared.extent.InlinedSize.{InlinedSize}
 use Rattle.dk_inline.specs.Inlined.{Substitute, itself, body, inlined_body, substitute_of, substitutes, stays}
 use Rattle.dk_inline.specs.Nodes.{nodes_of, nodes_from, node_count, IsDeep, IsFirstDeep}
 use Rattle.dk_inline.specs.Extents.{saturated, IsExtent, IsExtentOf, AreExtents, HaveExtents}
@@ -25,12 +25,12 @@ above_saturated : (n : ℕ) → 1024 < saturated n → 1024 < n
 above_saturated n h = omega (arith, h)
 
 -- too deep or not
-pub deep_is : (p : Typing) (xs : List Extent) (k : ℕ) (x : Extent) → HaveExtents p xs → slice_get xs k ≡ Some x → (d : Definition) → slice_get p.definitions k ≡ Some d → stays p k d ≡ true → 1024 < x.depth → IsDeep p k d
+pub deep_is : (p : Typing) (xs : List InlinedSize) (k : ℕ) (x : InlinedSize) → HaveExtents p xs → slice_get xs k ≡ Some x → (d : Definition) → slice_get p.definitions k ≡ Some d → stays p k d ≡ true → 1024 < x.depth → IsDeep p k d
 deep_is p xs k x have at d is stay deep =
     let e = (have.each k d x is at).depth in
     record { at = is; stays = stay; deep = above_saturated (depth_of (inlined_body (substitutes p) d)) (omega (arith, e, deep)) }
 
-pub deep_only : (p : Typing) (xs : List Extent) (k : ℕ) (x : Extent) → HaveExtents p xs → slice_get xs k ≡ Some x → (d : Definition) → IsDeep p k d → 1024 < x.depth
+pub deep_only : (p : Typing) (xs : List InlinedSize) (k : ℕ) (x : InlinedSize) → HaveExtents p xs → slice_get xs k ≡ Some x → (d : Definition) → IsDeep p k d → 1024 < x.depth
 deep_only p xs k x have at d is =
     let e = (have.each k d x is.at at).depth in
     let lt = below_saturated (depth_of (inlined_body (substitutes p) d)) is.deep in
@@ -77,7 +77,7 @@ pub definition_count : (p : TypedProgram) → length (typing_of p).definitions �
 definition_count p = length-map p.definitions definition_of
 
 -- the loop's step, with the entry that it is at
-pub counted_more : (p : Typing) (xs : List Extent) (k count own : ℕ) → HaveExtents p xs → k < length xs → ((d : Definition) → slice_get p.definitions k ≡ Some d → own ≡ saturated (if stays p k d then nodes_of (inlined_body (substitutes p) d) else 0)) →
+pub counted_more : (p : Typing) (xs : List InlinedSize) (k count own : ℕ) → HaveExtents p xs → k < length xs → ((d : Definition) → slice_get p.definitions k ≡ Some d → own ≡ saturated (if stays p k d then nodes_of (inlined_body (substitutes p) d) else 0)) →
     saturated (count + nodes_from p k (drop k p.definitions)) ≡ saturated (node_count p) →
     saturated (saturated (count + own) + nodes_from p (k + 1) (drop (k + 1) p.definitions)) ≡ saturated (node_count p)
 counted_more p xs k count own have lt owned before =
@@ -86,7 +86,7 @@ counted_more p xs k count own have lt owned before =
     count_more p k count own d is (owned d is) before
 
 -- the first that is too deep
-pub first_is : (p : TypedProgram) (ds : List TypedDefinition) (k : ℕ) (t : TypedDefinition) (xs : List Extent) → HaveExtents (typing_of p) xs → ds ≡ p.definitions → k < length xs → ((j : ℕ) (d : Definition) → j < k → IsDeep (typing_of p) j d → ⊥) → ((d : Definition) → slice_get (typing_of p).definitions k ≡ Some d → IsDeep (typing_of p) k d) →
+pub first_is : (p : TypedProgram) (ds : List TypedDefinition) (k : ℕ) (t : TypedDefinition) (xs : List InlinedSize) → HaveExtents (typing_of p) xs → ds ≡ p.definitions → k < length xs → ((j : ℕ) (d : Definition) → j < k → IsDeep (typing_of p) j d → ⊥) → ((d : Definition) → slice_get (typing_of p).definitions k ≡ Some d → IsDeep (typing_of p) k d) →
     IsFirstDeep (typing_of p) (slice_index_or ds k t).name.span
 first_is p ds k t xs have same lt before deep =
     let n = have.long in
@@ -101,7 +101,7 @@ first_is p ds k t xs have same lt before deep =
       named = ap (λ zs. (slice_index_or zs k t).name.span) same;
     }
 
-pub none_is : (p : Typing) (xs : List Extent) (k : ℕ) → HaveExtents p xs → length xs ≤ k → ((j : ℕ) (d : Definition) → j < k → IsDeep p j d → ⊥) → (j : ℕ) (d : Definition) → IsDeep p j d → ⊥
+pub none_is : (p : Typing) (xs : List InlinedSize) (k : ℕ) → HaveExtents p xs → length xs ≤ k → ((j : ℕ) (d : Definition) → j < k → IsDeep p j d → ⊥) → (j : ℕ) (d : Definition) → IsDeep p j d → ⊥
 none_is p xs k have past before j d is =
     let lt = slice_get_within p.definitions j d is.at in
     let n = have.long in
@@ -116,22 +116,22 @@ body_of_all p typed k d is =
     let n = earlier p k in
     body_same _ (images_before p k) (substitutes p) (λ g lt. get_or-take (length p.inputs + k) (substitutes p) g itself (omega (arith, lt, n))) d (well_at p typed k d is).0
 
-extent_of_inline : (b : Bool) (x : Extent) (e : Tree) → IsExtent x e → IsExtentOf (if b then Some x else None) (if b then body e else itself)
+extent_of_inline : (b : Bool) (x : InlinedSize) (e : Tree) → IsExtent x e → IsExtentOf (if b then Some x else None) (if b then body e else itself)
 extent_of_inline true x e h = h
 extent_of_inline false x e h = tt
 
-same_extent : (x y : Option Extent) (s t : Substitute) → x ≡ y → s ≡ t → IsExtentOf x s → IsExtentOf y t
+same_extent : (x y : Option InlinedSize) (s t : Substitute) → x ≡ y → s ≡ t → IsExtentOf x s → IsExtentOf y t
 same_extent x y s t a b h =
-    let P : Option Extent → Type 0 = λ z. IsExtentOf z s in
+    let P : Option InlinedSize → Type 0 = λ z. IsExtentOf z s in
     let Q : Substitute → Type 0 = λ z. IsExtentOf y z in
     subst Q b (subst P a h)
 
 -- one definition more
-pub known_more : (p : Typing) → IsTyped p → (k : ℕ) (known : List (Option Extent)) (x : Extent) (d : Definition) → slice_get p.definitions k ≡ Some d → length known ≡ length p.inputs + k → AreExtents known (images_before p k) → IsExtent x (inlined_body (images_before p k) d) →
+pub known_more : (p : Typing) → IsTyped p → (k : ℕ) (known : List (Option InlinedSize)) (x : InlinedSize) (d : Definition) → slice_get p.definitions k ≡ Some d → length known ≡ length p.inputs + k → AreExtents known (images_before p k) → IsExtent x (inlined_body (images_before p k) d) →
     AreExtents (known ++ (if d.inline then Some x else None) ∷ []) (images_before p (k + 1)) × IsExtent x (inlined_body (substitutes p) d)
 known_more p typed k known x d is counted are extent = (more, own)
   where
-    new : Option Extent
+    new : Option InlinedSize
     new = if d.inline then Some x else None
 
     own : IsExtent x (inlined_body (substitutes p) d)
@@ -167,7 +167,7 @@ known_more p typed k known x d is counted are extent = (more, own)
     ]
 
 -- before the first definition
-pub known_first : (p : Typing) (known : List (Option Extent)) → ((g : ℕ) → slice_index_or known g None ≡ None) → AreExtents known (images_before p 0)
+pub known_first : (p : Typing) (known : List (Option InlinedSize)) → ((g : ℕ) → slice_index_or known g None ≡ None) → AreExtents known (images_before p 0)
 known_first p known none g = elim (cases_lt g (length p.inputs)) [
   | inl low ↦
       let lt : g < length p.inputs + 0 = omega (arith, low) in
@@ -178,24 +178,24 @@ known_first p known none g = elim (cases_lt g (length p.inputs)) [
 ]
 
 -- those that are there are of the definitions' bodies
-abbrev pub HaveEach : Typing → List Extent → Type 0
-HaveEach p xs = (j : ℕ) (e : Definition) (y : Extent) → slice_get p.definitions j ≡ Some e → slice_get xs j ≡ Some y → IsExtent y (inlined_body (substitutes p) e)
+abbrev pub HaveEach : Typing → List InlinedSize → Type 0
+HaveEach p xs = (j : ℕ) (e : Definition) (y : InlinedSize) → slice_get p.definitions j ≡ Some e → slice_get xs j ≡ Some y → IsExtent y (inlined_body (substitutes p) e)
 
-pub each_none : (p : Typing) (xs : List Extent) → xs ≡ [] → HaveEach p xs
+pub each_none : (p : Typing) (xs : List InlinedSize) → xs ≡ [] → HaveEach p xs
 each_none p xs none j e y at there =
     let lt = slice_get_within xs j y there in
     let n : length xs ≡ 0 = ap length none in
     absurd (omega (arith, lt, n))
 
 -- with one more
-pub each_more : (p : Typing) (k : ℕ) (all : List Extent) (x : Extent) (d : Definition) → slice_get p.definitions k ≡ Some d → length all ≡ k → IsExtent x (inlined_body (substitutes p) d) →
+pub each_more : (p : Typing) (k : ℕ) (all : List InlinedSize) (x : InlinedSize) (d : Definition) → slice_get p.definitions k ≡ Some d → length all ≡ k → IsExtent x (inlined_body (substitutes p) d) →
     HaveEach p all → HaveEach p (all ++ x ∷ [])
 each_more p k all x d at long own before j e y is there = elim (last_entry all x y j there) [
   | inl earlier ↦ before j e y is earlier
   | inr last ↦
       let here : slice_get p.definitions k ≡ Some e = ap (slice_get p.definitions) (sym long ∙ sym last.0) ∙ is in
       let same : d ≡ e = let some : Some d ≡ Some e = sym at ∙ here in cc in
-      let P : Extent → Type 0 = λ z. IsExtent z (inlined_body (substitutes p) d) in
+      let P : InlinedSize → Type 0 = λ z. IsExtent z (inlined_body (substitutes p) d) in
       let Q : Definition → Type 0 = λ z. IsExtent y (inlined_body (substitutes p) z) in
       subst Q same (subst P last.1 own)
 ]

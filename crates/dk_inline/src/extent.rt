@@ -13,40 +13,40 @@ use std::alloc::{AllocError, Global};
 
 // The nodes and the depth of an expression after inlining. Both saturate.
 #[derive(Clone, Copy)]
-pub struct Extent {
+pub struct InlinedSize {
     pub nodes: u64,
     pub depth: u64,
 }
 
 // Of a constant or a read.
-fn leaf() -> Extent
+fn leaf() -> InlinedSize
     ensures { HasExtent result 1 1 }
 {
-    Extent { nodes: 1, depth: 1 }
+    InlinedSize { nodes: 1, depth: 1 }
 }
 
 // Of a form with such operands.
-fn above(operands: Extent) -> Extent
+fn above(operands: InlinedSize) -> InlinedSize
     ensures { HasExtent result (saturated (operands.nodes + 1)) (saturated (operands.depth + 1)) }
 {
-    Extent {
+    InlinedSize {
         nodes: operands.nodes.saturating_add(1),
         depth: operands.depth.saturating_add(1),
     }
 }
 
 // Of operands side by side.
-fn beside(a: Extent, b: Extent) -> Extent
+fn beside(a: InlinedSize, b: InlinedSize) -> InlinedSize
     ensures { HasExtent result (saturated (a.nodes + b.nodes)) (max a.depth b.depth) }
 {
-    Extent {
+    InlinedSize {
         nodes: a.nodes.saturating_add(b.nodes),
         depth: a.depth.max(b.depth),
     }
 }
 
 // Of the body of an image, where it is inline.
-fn known_extent(known: &[Option<Extent>], image: u32) -> Option<Extent>
+fn known_extent(known: &[Option<InlinedSize>], image: u32) -> Option<InlinedSize>
     ensures { result ≡ slice_index_or known.now image None }
 {
     match known.get(image as usize) {
@@ -56,7 +56,7 @@ fn known_extent(known: &[Option<Extent>], image: u32) -> Option<Extent>
 }
 
 // Of an expression, where `known` has those of the images.
-fn extent_of(known: &[Option<Extent>], e: &TypedExpr) -> Extent
+fn extent_of(known: &[Option<InlinedSize>], e: &TypedExpr) -> InlinedSize
     ensures { (images : List Substitute) → AreExtents known.now images
         → IsExtent result (inlined images (typed_of e.now)) }
 {
@@ -84,7 +84,7 @@ fn extent_of(known: &[Option<Extent>], e: &TypedExpr) -> Extent
 }
 
 // Of a definition's body, brought into its declared type.
-fn body_extent(known: &[Option<Extent>], definition: &TypedDefinition) -> Extent
+fn body_extent(known: &[Option<InlinedSize>], definition: &TypedDefinition) -> InlinedSize
     ensures { (images : List Substitute) → AreExtents known.now images
         → IsExtent result (inlined_body images (definition_of definition.now)) }
 {
@@ -96,21 +96,21 @@ fn body_extent(known: &[Option<Extent>], definition: &TypedDefinition) -> Extent
 }
 
 // What a read of the definition's image adds.
-fn read_extent(definition: &TypedDefinition, body: Extent) -> Option<Extent>
+fn read_extent(definition: &TypedDefinition, body: InlinedSize) -> Option<InlinedSize>
     ensures { result ≡ (if definition.now.inline then Some body else None) }
 {
     if definition.inline { Some(body) } else { None }
 }
 
 // What reads of this many inputs add.
-fn unread(alloc: Global, inputs: usize) -> Result<Vec<Option<Extent>>, AllocError>
+fn unread(alloc: Global, inputs: usize) -> Result<Vec<Option<InlinedSize>>, AllocError>
     ensures { IfOk result (λ v. AreUnread v.items inputs) }
 {
     Ok(vec![in alloc; None; inputs]?)
 }
 
 // Of the bodies of all definitions, in order.
-pub(crate) fn extents(alloc: Global, program: &TypedProgram) -> Result<Vec<Extent>, AllocError>
+pub(crate) fn extents(alloc: Global, program: &TypedProgram) -> Result<Vec<InlinedSize>, AllocError>
     ensures { IfOk result (λ all. HaveExtents (typing_of program.now) all.items) }
 {
     program.law();
@@ -141,7 +141,7 @@ pub(crate) fn stays(program: &TypedProgram, number: usize) -> bool
 }
 
 // The nodes that a definition counts.
-fn counted(program: &TypedProgram, extents: &[Extent], number: usize) -> u64
+fn counted(program: &TypedProgram, extents: &[InlinedSize], number: usize) -> u64
     requires { HaveExtentAt (typing_of program.now) extents.now number }
     ensures { (d : Definition) → slice_get (typing_of program.now).definitions number ≡ Some d
         → result ≡ saturated (counted_nodes (typing_of program.now) number d) }
@@ -154,7 +154,7 @@ fn counted(program: &TypedProgram, extents: &[Extent], number: usize) -> u64
 }
 
 // The nodes of the program after inlining. The count saturates.
-pub(crate) fn node_count(program: &TypedProgram, extents: &[Extent]) -> u64
+pub(crate) fn node_count(program: &TypedProgram, extents: &[InlinedSize]) -> u64
     requires { HaveExtents (typing_of program.now) extents.now }
     ensures { result ≡ saturated (node_count_of (typing_of program.now)) }
 {
@@ -173,7 +173,7 @@ fn passes(depth: u64) -> bool
 }
 
 // Whether a definition stays and is too deep.
-fn is_deep(program: &TypedProgram, extents: &[Extent], number: usize) -> bool
+fn is_deep(program: &TypedProgram, extents: &[InlinedSize], number: usize) -> bool
     requires { HaveExtentAt (typing_of program.now) extents.now number }
     ensures yes { IsTrue result → (d : Definition)
         → slice_get (typing_of program.now).definitions number ≡ Some d
@@ -188,7 +188,7 @@ fn is_deep(program: &TypedProgram, extents: &[Extent], number: usize) -> bool
 }
 
 // The name of the first definition that is too deep.
-pub(crate) fn first_deep(program: &TypedProgram, extents: &[Extent]) -> Option<Span>
+pub(crate) fn first_deep(program: &TypedProgram, extents: &[InlinedSize]) -> Option<Span>
     requires { HaveExtents (typing_of program.now) extents.now }
     ensures { MatchOption result ((k : ℕ) (d : Definition) → IsDeep (typing_of program.now) k d → ⊥)
         (IsFirstDeep (typing_of program.now)) }

@@ -1,7 +1,7 @@
 use Rattle.std.proofs.Common.{◌≡◌, ◌+◌, List, length, slice_get, Option, Some, None, refl, sym, ap, ◌∙◌, subst, arith, length-append, [], ◌∷◌, ◌++◌, if◌then◌else◌}
 use Rattle.std.proofs.lemmas.Option.{slice_get_read}
 use Rattle.dk_types.specs.Typed.{definition_of, typing_of}
-use Rattle.dk_inline.specs.declared.extent.Extent.{Extent}
+use Rattle.dk_inline.specs.declared.extent.InlinedSize.{InlinedSize}
 use Rattle.dk_inline.specs.Extents.{AreExtents}
 use Rattle.dk_inline.proofs.Bodies.{entry_as}
 use Rattle.dk_inline.proofs.Counted.{images_before, known_first, known_more, each_more, each_none, HaveEach}
@@ -27,7 +27,7 @@ loop-k-preserved c =
     let ds = c.definitions-definitions.result.now in
     let listed : slice_get c.args.program.now.definitions k ≡ Some t = ap (λ zs. slice_get zs k) (sym c.definitions-definitions.ensures) ∙ slice_get_read ds (length ds) k t refl c.loop-k-test.true c.index-definitions-k.is in
     let at = entry_as c.args.program.now.definitions k t listed in
-    let P : List (Option Extent) → Type 0 = λ zs. AreExtents zs (images_before p k) in
+    let P : List (Option InlinedSize) → Type 0 = λ zs. AreExtents zs (images_before p k) in
     let known = subst P (sym c.deref.ensures.value) c.loop-k.invariant.images in
     let next = known_more p c.law.ensures k c.loop-k.known.items x (definition_of t) at c.loop-k.invariant.known c.loop-k.invariant.images (c.body_extent-body.ensures (images_before p k) known) in
     let pushed : c.push.new.self.items ≡ c.loop-k.known.items ++ (if t.inline then Some x else None) ∷ [] = c.in_ok-push.ensures.items ∙ ap (λ o. c.loop-k.known.items ++ o ∷ []) c.read_extent.ensures in
@@ -37,10 +37,10 @@ loop-k-preserved c =
     let m = c.loop-k.invariant.known in
     let n = c.loop-k.invariant.count in
     record {
-      images = let Q : List (Option Extent) → Type 0 = λ zs. AreExtents zs (images_before p (k + 1)) in subst Q (sym pushed) next.0;
+      images = let Q : List (Option InlinedSize) → Type 0 = λ zs. AreExtents zs (images_before p (k + 1)) in subst Q (sym pushed) next.0;
       known = let s = ap length pushed in omega (arith, s, a, m);
       count = let s = ap length added in omega (arith, s, b, n);
       each =
-          let R : List Extent → Type 0 = λ zs. HaveEach p zs in
+          let R : List InlinedSize → Type 0 = λ zs. HaveEach p zs in
           subst R (sym added) (each_more p k c.loop-k.all.items x (definition_of t) at n next.1 c.loop-k.invariant.each);
     }
