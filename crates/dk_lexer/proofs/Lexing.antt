@@ -10,8 +10,8 @@ use Rattle.dk_lexer.specs.Bytes.{is_in_line}
 use Rattle.dk_lexer.specs.Lexis.{Gap, none, white, comment, Solid, Lexes, finish, next, Refused, here, later, lexeme, span_at, HasTokens}
 use Rattle.dk_lexer.specs.declared.fault.LexError.{LexError}
 use Rattle.dk_lexer.specs.declared.fault.LexError.TheVariants.{OutOfMemory as NoMemory}
-use Rattle.dk_lexer.specs.declared.fault.Refusal.{Refusal}
-use Rattle.dk_lexer.specs.declared.fault.Refusal.TheVariants.{Fault, OutOfMemory}
+use Rattle.dk_lexer.specs.declared.fault.NoToken.{NoToken}
+use Rattle.dk_lexer.specs.declared.fault.NoToken.TheVariants.{Fault, OutOfMemory}
 use Rattle.dk_lexer.specs.Answer.{Answers, FitsIn, Stops, Ends, end_at, located_at}
 
 -- Whatever tokens are left come after those that were read, and the first fault is in what is left.
@@ -63,11 +63,11 @@ pub ended : {V : Type 0} (items : V → List Token) (source text bytes : List �
 ended items source text bytes start tokens (Ok all) c g e s h = rw h (continues_end source text bytes start tokens c g e s)
 ended items source text bytes start tokens (Err error) c g e s h = rw h tt
 
-pub ends : (total start : ℕ) (bytes : List ℕ) (r : Refusal) → total < 2 ^ 64 → length bytes ≤ total → start ≡ total - length bytes → FitsIn (length bytes) r → Ends start r
+pub ends : (total start : ℕ) (bytes : List ℕ) (r : NoToken) → total < 2 ^ 64 → length bytes ≤ total → start ≡ total - length bytes → FitsIn (length bytes) r → Ends start r
 ends total start bytes (Fault kind n) a b c h = omega (arith, h)
 ends total start bytes OutOfMemory a b c h = tt
 
-pub stops : (source text bytes after : List ℕ) (first start : ℕ) (r : Refusal) (tokens : List Token) → Continues source tokens text → Gap text bytes → Solid bytes
+pub stops : (source text bytes after : List ℕ) (first start : ℕ) (r : NoToken) (tokens : List Token) → Continues source tokens text → Gap text bytes → Solid bytes
     → bytes ≡ first ∷ after → start ≡ length source - length bytes → Answers (lexeme first after) (Err r) → Stops source (located_at start r)
 stops source text bytes after first start (Fault kind n) tokens c g s e b k = rw b (continues_fault source text bytes after first n kind tokens c g s e k)
 stops source text bytes after first start OutOfMemory tokens c g s e b k = tt

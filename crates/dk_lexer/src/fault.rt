@@ -41,7 +41,7 @@ pub struct LexFault {
 
 // Why there is no token at the front of a text: a fault of this many bytes, or out of memory.
 #[derive(Debug, Drop)]
-pub(crate) enum Refusal {
+pub(crate) enum NoToken {
     Fault(LexKind, usize),
     OutOfMemory,
 }
@@ -55,14 +55,14 @@ pub enum LexError {
     OutOfMemory,
 }
 
-impl From<AllocError> for Refusal {
+impl From<AllocError> for NoToken {
     ghost use Rattle.std.specs.Prelude.{◌≡◌};
-    ghost use Rattle.dk_lexer.specs.declared.fault.Refusal.TheVariants.{OutOfMemory};
+    ghost use Rattle.dk_lexer.specs.declared.fault.NoToken.TheVariants.{OutOfMemory};
 
     ghost from_gives = { λ _ e. e ≡ OutOfMemory };
 
-    fn from(_e: AllocError) -> Refusal {
-        Refusal::OutOfMemory
+    fn from(_e: AllocError) -> NoToken {
+        NoToken::OutOfMemory
     }
 }
 

@@ -9,7 +9,7 @@ ghost use Rattle.dk_lexer.specs.Bytes.{is_in_line, symbols};
 ghost use Rattle.dk_lexer.specs.Answer.{Answers, FitsIn};
 ghost use Rattle.dk_lexer.specs.Lexis.{lexeme as lexeme_of, word_here, number_here, symbol_here, Gap, Solid};
 
-use crate::fault::{LexKind, Refusal};
+use crate::fault::{LexKind, NoToken};
 use crate::token::{Symbol, TokenKind};
 use dk_base::{MAX_NAME_BYTES, Text, digits_length, is_digit, is_letter, is_white, word_length};
 use std::alloc::Global;
@@ -86,7 +86,7 @@ fn value(digits: &[u8]) -> Option<u64>
     Some(value)
 }
 
-fn number(bytes: &[u8]) -> Result<(TokenKind, usize), Refusal>
+fn number(bytes: &[u8]) -> Result<(TokenKind, usize), NoToken>
     ensures answer { Answers (number_here bytes.now) result }
     ensures some { MatchResult result (λ x. x.1 ≡ prefix_len digit bytes.now) (λ e. FitsIn (length bytes.now) e) }
     ensures within { prefix_len digit bytes.now ≤ length bytes.now }
@@ -94,18 +94,18 @@ fn number(bytes: &[u8]) -> Result<(TokenKind, usize), Refusal>
     let length = digits_length(bytes);
     match value(&bytes[..length]) {
         Some(value) => Ok((TokenKind::Number(value), length)),
-        None => Err(Refusal::Fault(LexKind::NumberTooGreat, length)),
+        None => Err(NoToken::Fault(LexKind::NumberTooGreat, length)),
     }
 }
 
-fn word(alloc: Global, bytes: &[u8]) -> Result<(TokenKind, usize), Refusal>
+fn word(alloc: Global, bytes: &[u8]) -> Result<(TokenKind, usize), NoToken>
     ensures answer { Answers (word_here bytes.now) result }
     ensures some { MatchResult result (λ x. x.1 ≡ prefix_len word_byte bytes.now) (λ e. FitsIn (length bytes.now) e) }
     ensures within { prefix_len word_byte bytes.now ≤ length bytes.now }
 {
     let length = word_length(bytes);
     if length > MAX_NAME_BYTES {
-        return Err(Refusal::Fault(LexKind::NameTooLong, length));
+        return Err(NoToken::Fault(LexKind::NameTooLong, length));
     }
     let text = Vec::from_slice(alloc, &bytes[..length])?;
     Ok((TokenKind::Word(Text::new(text)), length))
@@ -113,7 +113,7 @@ fn word(alloc: Global, bytes: &[u8]) -> Result<(TokenKind, usize), Refusal>
 
 // The longest symbol, looked for at two bytes and then at one.
 #[tactic(auto, using(crate::proofs::Symbols::is_two, crate::proofs::Symbols::is_one_before, crate::proofs::Symbols::is_one_last))]
-fn symbol(first: u8, after: &[u8]) -> Result<(TokenKind, usize), Refusal>
+fn symbol(first: u8, after: &[u8]) -> Result<(TokenKind, usize), NoToken>
     ensures answer { Answers (symbol_here (first ∷ after.now)) result }
     ensures some { MatchResult result (λ x. (0 < x.1) × (x.1 ≤ suc (length after.now))) (λ e. FitsIn (suc (length after.now)) e) }
 {
@@ -124,7 +124,7 @@ fn symbol(first: u8, after: &[u8]) -> Result<(TokenKind, usize), Refusal>
     }
     match one_byte_symbol(first) {
         Some(symbol) => Ok((TokenKind::Symbol(symbol), 1)),
-        None => Err(Refusal::Fault(LexKind::BadByte, 1)),
+        None => Err(NoToken::Fault(LexKind::BadByte, 1)),
     }
 }
 
@@ -135,7 +135,7 @@ pub(crate) fn lexeme(
     bytes: &[u8],
     first: u8,
     after: &[u8],
-) -> Result<(TokenKind, usize), Refusal>
+) -> Result<(TokenKind, usize), NoToken>
     requires { bytes.now ≡ first ∷ after.now }
     ensures answer { Answers (lexeme_of first after.now) result }
     ensures some { MatchResult result (λ x. (0 < x.1) × (x.1 ≤ length bytes.now)) (λ e. FitsIn (length bytes.now) e) }

@@ -8,7 +8,7 @@ ghost use Rattle.dk_lexer.specs.Lexis.{HasTokens, HasFault};
 ghost use Rattle.dk_lexer.specs.Answer.{Stops, Ends, end_at, located_at};
 ghost use Rattle.dk_lexer.specs.Faithful.{IsEnded, IsFaithful};
 
-use crate::fault::{LexError, LexFault, Refusal};
+use crate::fault::{LexError, LexFault, NoToken};
 use crate::lexeme;
 use crate::token::{Token, TokenKind};
 use dk_base::Span;
@@ -73,20 +73,18 @@ fn ended(mut tokens: Vec<Token>, length: usize) -> Result<Vec<Token>, LexError>
 }
 
 // The fault of a token that would begin at `start`.
-fn located(start: usize, refusal: Refusal) -> LexError
+fn located(start: usize, refusal: NoToken) -> LexError
     requires { Ends start refusal }
     ensures { result ≡ located_at start refusal }
 {
-    match refusal {
-        Refusal::Fault(kind, length) => LexError::Fault(LexFault {
-            span: Span {
-                start,
-                stop: start + length,
-            },
-            kind,
-        }),
-        Refusal::OutOfMemory => LexError::OutOfMemory,
-    }
+    let NoToken::Fault(kind, length) = refusal else {
+        return LexError::OutOfMemory;
+    };
+    let span = Span {
+        start,
+        stop: start + length,
+    };
+    LexError::Fault(LexFault { span, kind })
 }
 
 /// A text has one list of tokens, or one first fault, and never both.
