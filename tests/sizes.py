@@ -1,14 +1,18 @@
 #!/usr/bin/env python3
-"""Counts crates: the longest chain of dependencies, the large crates, the functions whose contract states only safety, and how long contracts and
-lists of arguments are. Prints a chain of more than eight crates, each crate of more than 1,500 lines or 110 functions, each of more than 1,500 lines
-with its clauses (three have more, and may not grow: ALL_LINES), each function of more than six arguments, and a number of functions that docs/PROMISES.md has not, and then ends with status 1. The methods of the trait `BufferForm` are left out:
-their callers give each argument.
+"""Counts crates: the longest chain of dependencies, the large crates, the functions whose contract states only safety, how long contracts and
+lists of arguments are, how deep the blocks of functions are, and the names that are types in several crates. Prints a chain of more than eight crates,
+each crate of more than 1,500 lines or 110 functions, each of more than 1,500 lines with its clauses (three have more, and may not grow: ALL_LINES),
+each function of more than six arguments, the number of nested functions if there are more than MOST_NESTED, a name that is a type in several crates
+and is not in SHARED (or is in SHARED and no longer one), and a number of functions that docs/PROMISES.md has not, and then ends with status 1.
+The methods of the trait `BufferForm` are left out: their callers give each argument.
 
 usage: tests/sizes.py [--print]
 
 --print prints the counts instead. Lines of code are those of src/ that are not empty, no comment and no line of a contract. A function states only
 safety if it has no clause `ensures`. A method of an impl of a trait has the clauses of its trait.
 A clause is a `requires` or an `ensures` with the lines after it; it is wide if one of them has more than 100 columns.
+A function is nested if a line of its body is indented by 16 columns more than the function, or by more than that. A type is a struct, an enum, a trait or
+a type alias; a name is shared if two crates or more have a type of that name that is not private to a module.
 """
 
 import re
@@ -22,6 +26,13 @@ MANY_CLAUSES, WIDE = 15, 100
 ALL_LINES = {"dk_top": 2291, "circuit": 1554, "netlist": 1524}
 FUNCTION = re.compile(r"^\s*(?:pub(?:\([a-z]+\))?\s+)?(?:const\s+)?(?:unsafe\s+)?fn \w+.*")
 TRAIT = re.compile(r"^impl\b.*\bfor\b")
+# The nested functions may not grow in number.
+DEEP, MOST_NESTED = 16, 70
+# The names that are types in several crates. None may be added: a new type has a name that no other crate has for another thing.
+SHARED = """
+Batch Built Edge Expr Halt Input Instruction Interval Keyword Lane LexFault LexKind Line Mark Name Numbers Operand Options Parts Program Reading
+ReportFault Scope Shape Single Slot Stage Step Stop Symbol Token TokenKind
+"""
 
 
 def dependencies():
@@ -146,20 +157,60 @@ def contracts():
     return crowded, many, all_clauses / all_functions, 100 * wide / all_clauses
 
 
+def is_nested(head, lines):
+    """Whether a line of the body of a function is deep, for its first line and the lines after it."""
+    margin = " " * (len(head) - len(head.lstrip()))
+    in_body = False
+    for line in lines:
+        if line == margin + "}" or not in_body and line.endswith(("{}", ";")) and not re.match(r"\s*(requires|ensures)\b", line):
+            return False
+        if in_body and line.strip() and not line.lstrip().startswith("//") and line.startswith(margin + DEEP * " "):
+            return True
+        in_body |= line.endswith("{") and line.startswith(margin) and not re.match(r"\s*(requires|ensures)\b", line)
+    return False
+
+
+def nested():
+    """Where each nested function is."""
+    for name, files in sources(dependencies()):
+        for path, text in files:
+            lines = text.splitlines()
+            for number, line in enumerate(lines):
+                if FUNCTION.match(line) and is_nested(line, lines[number:]):
+                    yield f"{path.relative_to(TOP)}:{number + 1}"
+
+
+def shared():
+    """The names that are types in several crates, each with these crates."""
+    crates = {}
+    for name, files in sources(dependencies()):
+        for _, text in files:
+            for word in re.findall(r"^pub(?:\([a-z]+\))? (?:struct|enum|trait|type) (\w+)", text, re.M):
+                crates.setdefault(word, set()).add(name)
+    return {word: sorted(names) for word, names in sorted(crates.items()) if len(names) > 1}
+
+
 def main():
     chain, large, all_functions, plain = counts()
     crowded, many, each, wide = contracts()
+    deep, types, listed = list(nested()), shared(), SHARED.split()
     if sys.argv[1:] == ["--print"]:
         print(f"chain of {len(chain)}: {', '.join(chain)}\nlarge: {', '.join(large) or 'none'}\n{plain} of {all_functions} functions state only safety")
         print("with clauses:", ", ".join(f"{name} {count:,}" for name, count in long_crates().items()))
         print(f"{len(crowded)} functions of more than {MOST_ARGUMENTS} arguments", *crowded, sep="\n  ")
         print(f"{len(many)} functions of {MANY_CLAUSES} clauses and more", *many, sep="\n  ")
+        print(f"{len(deep)} nested functions", *deep, sep="\n  ")
+        print(f"{len(types)} names of types in several crates", *(f"{name}: {', '.join(names)}" for name, names in types.items()), sep="\n  ")
         print(f"{each:.2f} clauses a function; {wide:.0f} in 100 clauses have a line of more than {WIDE} columns")
         return 0
     wrong = []
     wrong += crowded
     wrong += [f"{name} has more than {MOST_LINES} lines or {MOST_FUNCTIONS} functions" for name in large]
     wrong += [f"{name} has {count:,} lines with its clauses" for name, count in long_crates().items() if count > ALL_LINES.get(name, MOST_LINES)]
+    wrong += [f"{name} is a type in {', '.join(names)}" for name, names in types.items() if name not in listed]
+    wrong += [f"SHARED lists {name}" for name in listed if name not in types]
+    if len(deep) > MOST_NESTED:
+        wrong.append(f"{len(deep)} nested functions, at most {MOST_NESTED}")
     if len(chain) > MOST_CHAIN:
         wrong.append(f"a chain of {len(chain)} crates: {', '.join(chain)}")
     count = f"{plain:,} of {all_functions:,} functions state only safety"
