@@ -20,7 +20,7 @@ use Rattle.net_build.specs.Counters.{control_nets, start_levels}
 use Rattle.net_build.specs.Depth.{IsWithin, AreWithin, IsOver, by_itself, is_start, control_levels}
 use Rattle.net_build.specs.Logic.{IsGate}
 use Rattle.net_build.proofs.Depth.{within_more, within_deeper, within_net, within_constant}
-use Rattle.net_build.proofs.Levels.{atom_deeper, given_within, binary_within, choose_within, choice_nets, choice_within, single_within}
+use Rattle.net_build.proofs.Levels.{atom_deeper, given_within, binary_within, choose_within, choice_nets, choice_within, single_within, starts_at, register_starts}
 use Rattle.net_build.proofs.Logic.{AreIn, first_in, second_in}
 use Rattle.net_build.proofs.Parts.{Includes-refl, Includes-trans}
 use Rattle.edge_select.specs.declared.pixel.Pixel.{Pixel}
@@ -88,20 +88,6 @@ load_over b1 b0 load l test register n e f g = subst (λ (o : Option Net). IsOve
 
 pub always_over : (b : Netlist) (load : Option Net) (test register : Net) → load ≡ None → IsOver b b 1 (sources load test register) test
 always_over b load test register e = subst (λ (o : Option Net). IsOver b b 1 (sources o test register) test) (sym e) (λ base j all. within_deeper (omega arith) (all test (first_in test [])))
-
--- rst, en and registers begin clock paths
-pub starts_at : (b : Netlist) (j : ℕ) → AreWithin b is_start j (control_nets b.enable)
-starts_at b j x c = by_itself (port b.enable x c)
-  where
-    port : (e : Bool) (n : Net) → Contains (control_nets e) n → IsTrue (is_start (OfNet n))
-    port true n (zero, l, e) = subst (λ (x : Net). IsTrue (is_start (OfNet x))) e refl
-    port false n (zero, l, e) = subst (λ (x : Net). IsTrue (is_start (OfNet x))) e refl
-    port true n (suc zero, l, e) = subst (λ (x : Net). IsTrue (is_start (OfNet x))) e refl
-    port true n (suc (suc i), l, e) = absurd (omega (arith, l))
-    port false n (suc i, l, e) = absurd (omega (arith, l))
-
-pub register_starts : (b : Netlist) (j k : ℕ) (n : Net) → n ≡ Reg k → IsWithin b is_start j (OfNet n)
-register_starts b j k n e = subst (λ (x : Net). IsWithin b is_start j (OfNet x)) (sym e) (by_itself refl)
 
 -- what the register of a test takes
 pub value_depth : (b0 b1 b2 b3 b4 : Netlist) (load : Option Net) (test register next value : Net) (k : ℕ) → register ≡ Reg k → Includes b1 b0 → Includes b4 b3 → IsOver b2 b1 1 (sources load test register) next → IsOver b3 b2 2 (control_nets b2.enable ++ register ∷ (next ∷ [])) value →

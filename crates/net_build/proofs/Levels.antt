@@ -156,3 +156,17 @@ register_depth c b old register n i k at f more is =
   where
     each : AreWithin old (is_control old.enable) 0 (register_nets old.enable register)
     each x there = by_itself (in_control old.enable i x (subst (λ (r : Net). Contains (control_nets old.enable ++ r ∷ []) x) at there))
+
+-- clock paths begin at them
+pub starts_at : (b : Netlist) (j : ℕ) → AreWithin b is_start j (control_nets b.enable)
+starts_at b j x c = by_itself (port b.enable x c)
+  where
+    port : (e : Bool) (n : Net) → Contains (control_nets e) n → IsTrue (is_start (OfNet n))
+    port true n (zero, l, e) = subst (λ (x : Net). IsTrue (is_start (OfNet x))) e refl
+    port false n (zero, l, e) = subst (λ (x : Net). IsTrue (is_start (OfNet x))) e refl
+    port true n (suc zero, l, e) = subst (λ (x : Net). IsTrue (is_start (OfNet x))) e refl
+    port true n (suc (suc i), l, e) = absurd (omega (arith, l))
+    port false n (suc i, l, e) = absurd (omega (arith, l))
+
+pub register_starts : (b : Netlist) (j k : ℕ) (n : Net) → n ≡ Reg k → IsWithin b is_start j (OfNet n)
+register_starts b j k n e = subst (λ (x : Net). IsWithin b is_start j (OfNet x)) (sym e) (by_itself refl)
