@@ -11,6 +11,7 @@ pub mod Forms
 pub mod Images
 pub mod Behaviour
 pub mod Nets
+pub mod Paths
 pub mod Modules
 pub mod Registers
 pub mod Ends
