@@ -14,6 +14,7 @@ use Rattle.dk_base.specs.Types.{width_of as bits_of_type}
 use Rattle.dk_base.specs.Stencils.{IsRead, place}
 use Rattle.dk_base.proofs.Orders.{number_at, at_place, place_at, kept_at}
 use Rattle.raster_delay.specs.Systems.{depth}
+use Rattle.wiring.specs.declared.right.Atom.{Atom}
 use Rattle.wiring.specs.declared.right.Atom.TheVariants as atom
 use Rattle.wiring.specs.declared.right.Right.TheVariants.{Copy}
 use Rattle.wiring.specs.declared.netlist.Net.{Net}
@@ -41,7 +42,7 @@ use Rattle.net_build.specs.Depth.{IsWithin, by_itself, is_start, control_levels,
 use Rattle.net_build.proofs.Depth.{within_more, within_wider, within_made, within_deeper, within_wire, within_net}
 use Rattle.net_build.proofs.Levels.{control_path}
 use Rattle.circuit.specs.Paths.{hold_levels, HasLevelsWithin, BoundsLevels, HasClockPaths}
-use Rattle.circuit.proofs.Clocked.{source_start, copied_within, is_pair, put_within}
+use Rattle.circuit.proofs.Clocked.{source_start, copied_within, is_pair, index_within, put_within}
 use Rattle.net_build.proofs.Control.{made_more, made_wider, made_wire, made_net, outputs_control}
 use Rattle.net_build.proofs.Reading.{outputs_read}
 use Rattle.net_build.proofs.Indexed.{reads_last, puts_last}
@@ -570,6 +571,9 @@ module _ (m b : Netlist) (p : Program) (plan : Plan) (form : Form) (nets : List 
       let kept : Keeps plan g = owner_kept x there in
       put_made m form plan copies g (net_of plan nets g) (filled g kept) (direct_source form plan) (control_direct form plan m.enable) (λ y own short. short) closed.whole.rules.updated (direct_net g kept) x (Put x i a) (owner_low x there) (owner_high x there) at refl
 
+  valid_path : (k : ℕ) → k < length p.outputs → IsWithin m is_start valid_levels (OfNet (valid_net k))
+  valid_path k low = copied_within m (valid_net k) (out k).0 valid_levels (output_right m last (flat closed.outs) (2 * k) (out k).0 closed.driven (flat_at closed.outs k (out k) (out_at k low)).0) (control_path m valid_levels valid_levels (out k).0 (omega arith) (valid_within k low))
+
   -- the clock paths
   module _ (aged : 1 ≤ plan.system.age) (n : ℕ) (bound : BoundsLevels p plan form m.enable n) where
     -- an image's net, with what it leaves over
@@ -607,7 +611,7 @@ module _ (m b : Netlist) (p : Program) (plan : Plan) (form : Form) (nets : List 
         count = ap length ports.outputs ∙ valids_long (map (λ (g : ℕ). bits_of_type (type_at p g)) p.outputs) ∙ ap (λ (l : ℕ). 2 * l) (length-map p.outputs (λ (g : ℕ). bits_of_type (type_at p g)))
 
         is_valid_net : (i : ℕ) → i < length p.outputs → IsWithin m is_start n (OfNet (valid_net i))
-        is_valid_net i low = copied_within m (valid_net i) (out i).0 n (output_right m last (flat closed.outs) (2 * i) (out i).0 closed.driven (flat_at closed.outs i (out i) (out_at i low)).0) (control_path m valid_levels n (out i).0 (let h = bound.control in omega (arith, h)) (valid_within i low))
+        is_valid_net i low = within_deeper (let h = bound.control in omega (arith, h)) (valid_path i low)
 
         is_dout_net : (i : ℕ) → i < length p.outputs → IsWithin m is_start n (OfNet (dout_net i))
         is_dout_net i low =
@@ -622,8 +626,19 @@ module _ (m b : Netlist) (p : Program) (plan : Plan) (form : Form) (nets : List 
         by (i, inl e) = subst (λ (j : ℕ). IsWithin m is_start n (OfNet (Output j))) (sym e) (is_valid_net i (omega (arith, e, lt, count)))
         by (i, inr e) = subst (λ (j : ℕ). IsWithin m is_start n (OfNet (Output j))) (sym e) (is_dout_net i (omega (arith, e, lt, count)))
 
+  put_index : (x : ℕ) (i a : Atom Net) → Contains m.updates (Put x i a) → All (IsWithin m is_start line_operators) (atom_reads i)
+  put_index x i a at =
+      let there : x < length m.arrays = (All-contains (UpdateIsSound m) m.updates (Put x i a) closed.whole.rules.updates at).0 in
+      let g : ℕ = (owns x there).image.number in
+      index_within m form plan copies g (net_of plan nets g) (filled g (owner_kept x there)) closed.whole.rules.updated x i a (owner_low x there) (owner_high x there) at
+
   pub clock_paths : HasClockPaths m p plan form
-  clock_paths aged n bound = record { updates = update_within aged n bound; outputs = output_within aged n bound }
+  clock_paths = record {
+    registers = λ u at. All-contains (SetsWithin m) m.updates u controlled.levels at;
+    indices = put_index;
+    valids = valid_path;
+    all = λ aged n bound. record { updates = update_within aged n bound; outputs = output_within aged n bound };
+  }
 
   copied : CopyLongArrays m form.long copies
   copied = record {

@@ -3,6 +3,7 @@ use Rattle.std.proofs.Common.{◌≡◌, ◌⊎◌, ℕ, zero, suc, ◌+◌, ◌
 use Rattle.std.specs.Prelude.{All, Contains, IsTrue}
 use Rattle.std.proofs.lemmas.Bool.{cases_lt}
 use Rattle.std.proofs.lemmas.List.Elements.{All-cons}
+use Rattle.wiring.specs.declared.right.Atom.{Atom}
 use Rattle.wiring.specs.declared.right.Atom.TheVariants as atom
 use Rattle.wiring.specs.declared.right.Right.TheVariants.{Copy, Choose, Word}
 use Rattle.wiring.specs.declared.netlist.Net.{Net}
@@ -10,8 +11,8 @@ use Rattle.wiring.specs.declared.netlist.Net.TheVariants.{Input, Output, Wire, R
 use Rattle.wiring.specs.declared.netlist.Holder.{Holder}
 use Rattle.wiring.specs.declared.netlist.Holder.TheVariants.{OfNet, OfArray}
 use Rattle.wiring.specs.declared.netlist.Update.{Update}
-use Rattle.wiring.specs.declared.netlist.Update.TheVariants.{Put}
-use Rattle.wiring.specs.BufferBits.{update_reads}
+use Rattle.wiring.specs.declared.netlist.Update.TheVariants.{Set, Put}
+use Rattle.wiring.specs.BufferBits.{atom_reads, update_reads}
 use Rattle.wiring.specs.Rules.{UpdatedOnce}
 use Rattle.wiring.specs.Netlist.{Netlist, enable_net, update_target}
 use Rattle.net_build.specs.Control.{is_control}
@@ -48,6 +49,11 @@ is_pair (suc (suc k)) = next k (is_pair k)
     next k (i, inl e) = (suc i, inl (omega (arith, e)))
     next k (i, inr e) = (suc i, inr (omega (arith, e)))
 
+-- what the index of a put reads
+abbrev index_reads : Update → List Holder
+index_reads (Set r a) = []
+index_reads (Put x i a) = atom_reads i
+
 -- What an image's own arrays take, where the image's net is within j.
 module _ (m : Netlist) (form : Form) (plan : Plan) (copies : List ℕ) (f : ℕ) (net : Net) (fills : AreFilled m (reads_directly form plan) copies (first_array form.shapes plan f) (end_array form.shapes plan f) net) where
   word_within : (x : ℕ) (index word : Net) → IsWithin m (is_control m.enable) line_operators (OfNet index) → ShowsWord m (reads_directly form plan) copies x index word → IsWithin m is_start line_operators (OfNet word)
@@ -75,6 +81,13 @@ module _ (m : Netlist) (form : Form) (plan : Plan) (copies : List ℕ) (f : ℕ)
         | inl later ↦ (let w = is.word later in within_deeper some (word_within (x - 1) w.index is.from w.control w.shown))
         | inr most ↦ (let same : x ≡ first_array form.shapes plan f = omega (arith, low, most) in subst (λ (n : Net). IsWithin m is_start j (OfNet n)) (sym (is.net same)) within)
       ]
+
+  -- the index of a put of one of them
+  pub index_within : UpdatedOnce m → (x : ℕ) (i a : Atom Net) → first_array form.shapes plan f ≤ x → x < end_array form.shapes plan f → Contains m.updates (Put x i a) → All (IsWithin m is_start line_operators) (atom_reads i)
+  index_within updated x i a low high at =
+      let t : Takes m (reads_directly form plan) copies x (fills x low high).from = (fills x low high).takes in
+      let same : Put x i a ≡ Put x (atom.Net t.index) (atom.Net t.stored) = only_update m updated (Put x i a) (Put x (atom.Net t.index) (atom.Net t.stored)) at t.put refl in
+      subst (λ (v : Update). All (IsWithin m is_start line_operators) (index_reads v)) (sym same) (within_net m is_start line_operators t.index (control_path m line_operators line_operators t.index (omega arith) t.control))
 
   -- what a put of one of them reads
   pub put_within : (j n : ℕ) → line_operators ≤ j → j + hold_levels m.enable ≤ n → 2 ≤ n → UpdatedOnce m → IsWithin m is_start j (OfNet net) → (x : ℕ) (u : Update) → first_array form.shapes plan f ≤ x → x < end_array form.shapes plan f → Contains m.updates u → update_target u ≡ OfArray x → All (IsWithin m is_start n) (update_reads u)

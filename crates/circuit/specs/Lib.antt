@@ -11,10 +11,10 @@ pub mod Forms
 pub mod Images
 pub mod Behaviour
 pub mod Nets
-pub mod Paths
 pub mod Modules
 pub mod Registers
 pub mod Ends
+pub mod Paths
 pub mod Driven
 pub mod Growing
 pub mod Readers

@@ -188,7 +188,7 @@ packed_circuit p plan enable block m old slots nets reads order program rules or
   once = packing.once (λ x low. let one = circuit.once x low in record { read = ap length one.read; put = ap length one.put });
   registers = packing.packed.regs;
   depth = λ base wide nets_in arrays_in n net is. packed_within m old slots packing.packed base wide nets_in arrays_in n net is;
-  paths = paths_alike m old slots p plan (form_with block circuit.splits) packing.packed rules circuit.whole.rules circuit.paths;
+  paths = paths_alike m old slots packing.packed rules circuit.whole.rules p plan (form_with block circuit.splits) circuit.paths;
   bits = λ k is. within_ahead plan block old m.arrays circuit.copies k circuit.bits circuit.copied.widths circuit.none words ((packing.bits k).1 is);
   none = none;
   behaves = behaves_alike m old v sim whole circuit.whole p plan (form_with block circuit.splits).places circuit.copies nets reads (λ c d fits other same. contents_seen m old slots packing.filled c d fits other same) (packed_nets old slots) circuit.behaves circuit.nets_are.there circuit.reads_are;
