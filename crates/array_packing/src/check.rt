@@ -391,7 +391,7 @@ fn are_puts_of(m: &Netlist, slots: &[Slot], places: &[usize], updates: &[Update]
     true
 }
 
-// Where the new netlist should have what the old one has, and the other way round: of each old update the new one, of each new assign that reads a word an old one that does, of each new put an old one. Nothing is claimed of it.
+// Where the new netlist should have what the old one has, and the other way round: of each old update the new one, of each new assign that reads a word an old one that does, of each new assign that joins the old update that puts its upper part, of each new put an old one. Nothing is claimed of it.
 #[derive(Debug, Drop)]
 pub(crate) struct Hints {
     pub updates: Vec<usize>,
@@ -425,5 +425,5 @@ pub(crate) fn is_packed(new: &Netlist, old: &Netlist, slots: &[Slot], hints: &Hi
     if !are_puts_of(old, slots, &hints.puts, &new.updates) {
         return false;
     }
-    are_joined(new, old, added, &hints.puts, &new.updates)
+    are_joined(new, old, &hints.reads, &hints.puts, &new.updates)
 }

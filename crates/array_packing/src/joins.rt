@@ -20,26 +20,25 @@ fn puts_at(updates: &[Update], place: usize, index: &Atom<Net>, value: &Atom<Net
     same_atom(&given, value)
 }
 
-// Whether one of the updates does.
-fn is_put(updates: &[Update], index: &Atom<Net>, value: &Atom<Net>) -> bool
-    ensures { IsTrue result → IsPutAmong updates.now index.now value.now }
-{
-    for place in 0..updates.len() {
-        if puts_at(updates, place, index, value) {
-            return true;
-        }
+// Where the assign of a join should be; nothing is claimed of it.
+fn join_place(old: &Netlist, whole: &Atom<Net>) -> usize {
+    let added = Added {
+        wire: old.wires.len(),
+        assign: old.assigns.len(),
+    };
+    match whole {
+        Atom::Net(net) => place_of(added, *net),
+        Atom::Constant(_) => 0,
     }
-    false
 }
 
-// The two parts of a join, the upper one first.
-fn joined_parts(m: &Netlist, added: Added, whole: &Atom<Net>) -> Option<(Atom<Net>, Atom<Net>)>
+// The two parts of a join, whose assign is at this place, the upper one first.
+fn joined_parts(m: &Netlist, place: usize, whole: &Atom<Net>) -> Option<(Atom<Net>, Atom<Net>)>
     ensures { IfSome result (λ r. IsJoin (netlist_of m.now) whole.now r.0 r.1) }
 {
     let Atom::Net(net) = whole else {
         return None;
     };
-    let place = place_of(added, *net);
     let Some(found) = m.assigns.get(place) else {
         return None;
     };
@@ -52,11 +51,11 @@ fn joined_parts(m: &Netlist, added: Added, whole: &Atom<Net>) -> Option<(Atom<Ne
     Some((*upper, *lower))
 }
 
-// Whether a value is joined of values that the old netlist puts at this index, the lowest by the update at this place.
+// Whether a value is joined of values that the old netlist puts at this index, the lowest by the update at this place, and each other one by the update that is named for its join.
 fn is_joined(
     new: &Netlist,
     old: &Netlist,
-    added: Added,
+    sources: &[usize],
     place: usize,
     index: &Atom<Net>,
     value: Atom<Net>,
@@ -68,10 +67,12 @@ fn is_joined(
         if puts_at(&old.updates, place, index, &whole) {
             return true;
         }
-        let Some((upper, lower)) = joined_parts(new, added, &whole) else {
+        let join = join_place(old, &whole);
+        let Some((upper, lower)) = joined_parts(new, join, &whole) else {
             return false;
         };
-        if !is_put(&old.updates, index, &upper) {
+        let source = sources.get(join).copied().unwrap_or(0);
+        if !puts_at(&old.updates, source, index, &upper) {
             return false;
         }
         whole = lower;
@@ -85,15 +86,15 @@ fn puts_joined(new: &Netlist, old: &Netlist, added: Added, place: usize, update:
 {
     match update {
         Update::Set(_, _) => true,
-        Update::Put(_, index, value) => is_joined(new, old, added, place, index, *value),
+        Update::Put(_, index, value) => is_joined(new, old, sources, place, index, *value),
     }
 }
 
-// Whether what each of the updates puts is, at the place that is named for it.
+// Whether what each of the updates of the new netlist puts is, at the place that is named for it.
 pub(crate) fn are_joined(
     new: &Netlist,
     old: &Netlist,
-    added: Added,
+    sources: &[usize],
     places: &[usize],
     updates: &[Update],
 ) -> bool
@@ -102,7 +103,7 @@ pub(crate) fn are_joined(
 {
     for (number, update) in updates.iter().enumerate() {
         let place = places.get(number).copied().unwrap_or(0);
-        if !puts_joined(new, old, added, place, update) {
+        if !puts_joined(new, old, sources, place, update) {
             return false;
         }
     }

@@ -30,7 +30,7 @@ pub record HasLevelsWithin (p : Program) (plan : Plan) (form : Form) (enable : B
   pub among : ChoosesAmong plan f body choices
   pub within : image_levels form body choices + hold_levels enable ≤ n
 
--- n is at least the levels of each kept image that is no input, and those of the registers.
+-- n is at least the levels of each kept image that is not an input, and those of the registers.
 pub record BoundsLevels (p : Program) (plan : Plan) (form : Form) (enable : Bool) (n : ℕ) : Type 0 where
   pub control : control_levels ≤ n
   pub image : (f : ℕ) → Keeps plan f → length p.inputs ≤ f → HasLevelsWithin p plan form enable f n

@@ -194,13 +194,6 @@ test_control new old copies x n bits worth grows is of = subst (λ (e : Bool). I
     from y (zero, l, e) = subst (λ (z : Net). IsMadeOf old (is_control_but old.enable copies) (OfNet z)) e of
     from y (suc i, l, e) = absurd (omega (arith, l))
 
-pub register_is_control : (b : Netlist) (n : Net) (r : ℕ) → n ≡ Reg r → IsControl b (OfNet n)
-register_is_control b n r e = subst (λ (x : Net). IsControl b (OfNet x)) (sym e) (by_itself (always b.enable))
-  where
-    always : (e : Bool) → IsTrue (is_control e (OfNet (Reg r)))
-    always true = refl
-    always false = refl
-
 -- one after another
 pub beside_none : (b : Netlist) (k : Option Counters) → AddsBeside b b k k
 beside_none b k = record {
