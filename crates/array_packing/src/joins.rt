@@ -81,7 +81,13 @@ fn is_joined(
 }
 
 // Whether what an update puts is.
-fn puts_joined(new: &Netlist, old: &Netlist, added: Added, place: usize, update: &Update) -> bool
+fn puts_joined(
+    new: &Netlist,
+    old: &Netlist,
+    sources: &[usize],
+    place: usize,
+    update: &Update,
+) -> bool
     ensures { IsTrue result → PutsJoined (netlist_of new.now) (netlist_of old.now) update.now }
 {
     match update {

@@ -16,7 +16,7 @@ use Rattle.wiring.specs.Snapshot.{Snapshot, net_value}
 use Rattle.net_build.specs.Includes.{Includes, InEach, AtEachEdge}
 use Rattle.net_build.specs.Draft.{IsNet, UpdatedBut, number, with_reg, with_update}
 use Rattle.net_build.specs.Runs.{NeverStops, IsStill, StillBut}
-use Rattle.net_build.specs.Control.{IsMadeOf, by_itself, is_control, is_control_but, IsControl, IsControlBut, IsControlled, AddsNoReads}
+use Rattle.net_build.specs.Control.{IsMadeOf, by_itself, is_control_but, IsControlBut, IsControlled, AddsNoReads}
 use Rattle.net_build.specs.Depth.{IsWithin, is_start, control_levels}
 use Rattle.net_build.specs.Logic.{AddsLogic, AreMadeOf, Computes, IsGate}
 use Rattle.net_build.specs.Counters.{control_nets, taken}
