@@ -38,10 +38,10 @@ use Rattle.net_build.specs.Indices.{read_indices, put_indices}
 use Rattle.net_build.proofs.Parts.{Includes-refl, Includes-trans}
 use Rattle.net_build.proofs.Runs.{clock_more}
 use Rattle.net_build.proofs.Grown.{net_more, width_more}
-use Rattle.net_build.specs.Depth.{IsWithin, by_itself, is_start, control_levels, SetsWithin}
+use Rattle.net_build.specs.Depth.{IsWithin, by_itself, is_start, hold_levels, control_levels, SetsWithin}
 use Rattle.net_build.proofs.Depth.{within_more, within_wider, within_made, within_deeper, within_wire, within_net}
 use Rattle.net_build.proofs.Levels.{control_path}
-use Rattle.circuit.specs.Paths.{hold_levels, HasLevelsWithin, BoundsLevels, HasClockPaths}
+use Rattle.circuit.specs.Paths.{HasLevelsWithin, BoundsLevels, HasClockPaths}
 use Rattle.circuit.proofs.Clocked.{source_start, copied_within, is_pair, index_within, put_within}
 use Rattle.net_build.proofs.Control.{made_more, made_wider, made_wire, made_net, outputs_control}
 use Rattle.net_build.proofs.Reading.{outputs_read}
@@ -596,7 +596,7 @@ module _ (m b : Netlist) (p : Program) (plan : Plan) (form : Form) (nets : List 
         some e k = (let l : test_levels ≤ max test_levels form.tap_levels = le-max_left test_levels form.tap_levels in omega (arith, l))
 
     update_within : (u : Update) → Contains m.updates u → All (IsWithin m is_start n) (update_reads u)
-    update_within (Set r a) at = All-weaker (IsWithin m is_start control_levels) (IsWithin m is_start n) (λ h is. within_deeper bound.control is) (atom_reads a) (All-contains (SetsWithin m) m.updates (Set r a) controlled.levels at)
+    update_within (Set r a) at = All-weaker (IsWithin m is_start (control_levels m.enable)) (IsWithin m is_start n) (λ h is. within_deeper bound.control is) (atom_reads a) (All-contains (SetsWithin m) m.updates (Set r a) controlled.levels at)
     update_within (Put x i a) at =
         let there : x < length m.arrays = (All-contains (UpdateIsSound m) m.updates (Put x i a) closed.whole.rules.updates at).0 in
         let g : ℕ = (owns x there).image.number in

@@ -16,7 +16,7 @@ use Rattle.wiring.specs.BufferBits.{atom_reads, update_reads}
 use Rattle.wiring.specs.Rules.{UpdatedOnce}
 use Rattle.wiring.specs.Netlist.{Netlist, enable_net, update_target}
 use Rattle.net_build.specs.Control.{is_control}
-use Rattle.net_build.specs.Depth.{IsWithin, by_itself, is_start}
+use Rattle.net_build.specs.Depth.{IsWithin, by_itself, is_start, hold_levels}
 use Rattle.net_build.proofs.Depth.{within_deeper, within_wire, within_net}
 use Rattle.net_build.proofs.Levels.{control_path}
 use Rattle.buffer_plan.specs.Plans.{Plan}
@@ -24,7 +24,6 @@ use Rattle.line_buffer.specs.Depths.{line_operators}
 use Rattle.line_buffer.specs.Fills.{HasRight, IsUnlessHeld, ShowsWord, by_read, by_copy, Takes, IsFilled, AreFilled}
 use Rattle.circuit.specs.Forms.{Form, first_array, end_array}
 use Rattle.circuit.specs.Images.{reads_directly, source_of}
-use Rattle.circuit.specs.Paths.{hold_levels}
 use Rattle.circuit.proofs.Netted.{only_update}
 
 -- what an image's net is made of begins clock paths

@@ -1,5 +1,5 @@
 -- One number that bounds the clock paths of a program's module.
-use Rattle.std.specs.Prelude.{ℕ, ◌+◌, ◌<◌, ◌≤◌, Bool, length, if◌then◌else◌, All, Contains}
+use Rattle.std.specs.Prelude.{ℕ, ◌+◌, ◌<◌, ◌≤◌, Bool, length, All, Contains}
 use Rattle.wiring.specs.declared.right.Atom.{Atom}
 use Rattle.wiring.specs.declared.netlist.Net.{Net}
 use Rattle.wiring.specs.declared.netlist.Holder.TheVariants.{OfNet}
@@ -7,7 +7,7 @@ use Rattle.wiring.specs.declared.netlist.Update.{Update}
 use Rattle.wiring.specs.declared.netlist.Update.TheVariants.{Put}
 use Rattle.wiring.specs.BufferBits.{atom_reads}
 use Rattle.wiring.specs.Netlist.{Netlist, valid_net}
-use Rattle.net_build.specs.Depth.{IsWithin, is_start, SetsWithin, AreClockPathsWithin, control_levels}
+use Rattle.net_build.specs.Depth.{IsWithin, is_start, SetsWithin, AreClockPathsWithin, hold_levels, control_levels}
 use Rattle.pointwise_ir.specs.Programs.{Program, IsBody}
 use Rattle.pointwise_ir.specs.Trees.{Tree}
 use Rattle.buffer_plan.specs.Plans.{Plan}
@@ -17,10 +17,6 @@ use Rattle.circuit.specs.Forms.{Form}
 use Rattle.line_buffer.specs.Depths.{line_operators}
 use Rattle.circuit.specs.Images.{image_levels}
 use Rattle.circuit.specs.Ends.{valid_levels}
-
--- the choice by en between a new word and the old one
-abbrev pub hold_levels : (enable : Bool) → ℕ
-hold_levels enable = if enable then 1 else 0
 
 -- The levels of image f, by its body and the taps among which its reads choose, and with `en` the choice by en, are at most n.
 pub record HasLevelsWithin (p : Program) (plan : Plan) (form : Form) (enable : Bool) (f n : ℕ) : Type 0 where
@@ -32,7 +28,7 @@ pub record HasLevelsWithin (p : Program) (plan : Plan) (form : Form) (enable : B
 
 -- n is at least the levels of each kept image that is not an input, and those of the registers.
 pub record BoundsLevels (p : Program) (plan : Plan) (form : Form) (enable : Bool) (n : ℕ) : Type 0 where
-  pub control : control_levels ≤ n
+  pub control : control_levels enable ≤ n
   pub image : (f : ℕ) → Keeps plan f → length p.inputs ≤ f → HasLevelsWithin p plan form enable f n
 
 -- At each age the clock paths to registers, to the indices of puts and to valids are short. At an age of at least 1 each number that bounds the levels bounds the operators on all clock paths of the module: also to the value of a put and to a dout.

@@ -84,5 +84,5 @@ module _ (new old : Netlist) (slots : List Slot) (is : IsPacked new old slots) (
   }
     where
       registers : (u : Update) → Contains new.updates u → SetsWithin new u
-      registers (Set r a) at = sets_within control_levels r a (λ j b has. paths.registers (Set j b) has) at
+      registers (Set r a) at = subst (λ (e : Bool). All (IsWithin new is_start (control_levels e)) (atom_reads a)) (sym is.enable) (sets_within (control_levels old.enable) r a (λ j b has. paths.registers (Set j b) has) at)
       registers (Put g i v) at = tt

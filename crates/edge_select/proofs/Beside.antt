@@ -156,7 +156,7 @@ module _ (b0 b1 b2 b3 b4 : Netlist) (load : Option Net) (first : ℕ) (test regi
       from_sources (Some x) own of n (suc (suc (suc i)), l, e) = absurd (omega (arith, l))
 
   pub register_adds : IsNet b1 register → net_width b1 register ≡ 1 → AtEachEdge b4 (λ s t. slice_get t.regs (number register) ≡ Some (net_value s value)) → (NeverStops b0 → NeverStops b4) →
-      ((copies : List ℕ) → IsControlled b0 copies → IsControlBut b4 copies (OfNet value) → IsWithin b4 is_start control_levels (OfNet value) → IsControlled b4 copies) → (IsWithin b0 is_start band_levels (OfNet test) → IfSome load (λ l. IsWithin b0 is_start band_levels (OfNet l)) → IsWithin b4 is_start control_levels (OfNet value)) → AddsRegisterOf b4 b0 load first test register
+      ((copies : List ℕ) → IsControlled b0 copies → IsControlBut b4 copies (OfNet value) → IsWithin b4 is_start (control_levels b4.enable) (OfNet value) → IsControlled b4 copies) → (IsWithin b0 is_start band_levels (OfNet test) → IfSome load (λ l. IsWithin b0 is_start band_levels (OfNet l)) → IsWithin b4 is_start (control_levels b4.enable) (OfNet value)) → AddsRegisterOf b4 b0 load first test register
   unfolding takes_here
   register_adds net width edge stops control short = record {
     includes = f40;

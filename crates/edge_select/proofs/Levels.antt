@@ -1,5 +1,5 @@
 -- Logic depth of what the counters and the registers of tests take.
-use Rattle.std.proofs.Common.{◌≡◌, ℕ, zero, suc, ◌≤◌, ◌+◌, Bool, true, false, List, [], ◌∷◌, ◌++◌, Option, None, Some, refl, sym, subst, inl, inr, arith}
+use Rattle.std.proofs.Common.{◌∙◌, ◌≡◌, ℕ, zero, suc, ◌≤◌, ◌+◌, Bool, true, false, List, [], ◌∷◌, ◌++◌, Option, None, Some, refl, sym, subst, inl, inr, arith}
 use Rattle.std.specs.Prelude.{IsTrue, IfSome, Contains}
 use Rattle.std.specs.Option.{option_to_list}
 use Rattle.std.proofs.lemmas.List.Elements.{Contains-append_left, Contains-append_right, Contains-append_cases}
@@ -17,10 +17,10 @@ use Rattle.wiring.specs.Netlist.{Netlist, reset_net}
 use Rattle.net_build.specs.Includes.{Includes}
 use Rattle.net_build.specs.Control.{is_control}
 use Rattle.net_build.specs.Counters.{control_nets, start_levels}
-use Rattle.net_build.specs.Depth.{IsWithin, AreWithin, IsOver, by_itself, is_start, control_levels}
+use Rattle.net_build.specs.Depth.{IsWithin, AreWithin, IsOver, by_itself, is_start, hold_levels, control_levels}
 use Rattle.net_build.specs.Logic.{IsGate}
 use Rattle.net_build.proofs.Depth.{within_more, within_deeper, within_net, within_constant}
-use Rattle.net_build.proofs.Levels.{atom_deeper, given_within, binary_within, choose_within, choice_nets, choice_within, single_within, starts_at, register_starts}
+use Rattle.net_build.proofs.Levels.{atom_deeper, given_within, binary_within, choose_within, choice_nets, choice_within, single_within, few_held, starts_at, register_starts}
 use Rattle.net_build.proofs.Logic.{AreIn, first_in, second_in}
 use Rattle.net_build.proofs.Parts.{Includes-refl, Includes-trans}
 use Rattle.edge_select.specs.declared.pixel.Pixel.{Pixel}
@@ -90,13 +90,14 @@ pub always_over : (b : Netlist) (load : Option Net) (test register : Net) → lo
 always_over b load test register e = subst (λ (o : Option Net). IsOver b b 1 (sources o test register) test) (sym e) (λ base j all. within_deeper (omega arith) (all test (first_in test [])))
 
 -- what the register of a test takes
-pub value_depth : (b0 b1 b2 b3 b4 : Netlist) (load : Option Net) (test register next value : Net) (k : ℕ) → register ≡ Reg k → Includes b1 b0 → Includes b4 b3 → IsOver b2 b1 1 (sources load test register) next → IsOver b3 b2 2 (control_nets b2.enable ++ register ∷ (next ∷ [])) value →
-    IsWithin b0 is_start band_levels (OfNet test) → IfSome load (λ l. IsWithin b0 is_start band_levels (OfNet l)) → IsWithin b4 is_start control_levels (OfNet value)
-value_depth b0 b1 b2 b3 b4 load test register next value k at f1 f4 o2 o3 short by =
-    within_more b4 b3 is_start f4
+pub value_depth : (b0 b1 b2 b3 b4 : Netlist) (load : Option Net) (test register next value : Net) (k : ℕ) → register ≡ Reg k → Includes b1 b0 → Includes b3 b2 → Includes b4 b3 → IsOver b2 b1 1 (sources load test register) next → IsOver b3 b2 (1 + hold_levels b2.enable) (control_nets b2.enable ++ register ∷ (next ∷ [])) value →
+    IsWithin b0 is_start band_levels (OfNet test) → IfSome load (λ l. IsWithin b0 is_start band_levels (OfNet l)) → IsWithin b4 is_start (control_levels b4.enable) (OfNet value)
+value_depth b0 b1 b2 b3 b4 load test register next value k at f1 f3 f4 o2 o3 short by =
+    subst (λ (e : Bool). IsWithin b4 is_start (control_levels e) (OfNet value)) (sym (f4.enable ∙ f3.enable))
+    (within_more b4 b3 is_start f4
     (within_deeper (omega arith)
     (o3 is_start (1 + band_levels)
-    (choice_within b2 b2 is_start 0 (1 + band_levels) register next (omega arith) (Includes-refl b2) (starts_at b2 0) (register_starts b2 (1 + band_levels) k register at) (o2 is_start band_levels (from_sources load by)))))
+    (choice_within b2 b2 is_start 0 (1 + band_levels) register next (omega arith) (Includes-refl b2) (starts_at b2 0) (register_starts b2 (1 + band_levels) k register at) (o2 is_start band_levels (from_sources load by))))))
   where
     one : (n : Net) → IsWithin b0 is_start band_levels (OfNet n) → IsWithin b1 is_start band_levels (OfNet n)
     one n is = within_more b1 b0 is_start f1 is
@@ -129,10 +130,10 @@ row_over b3 b2 b1 b0 column row ending next n f1 f2 f3 p q g base j all =
     (within_net b3 base (2 + j) next (within_more b3 b2 base f3 (q base j (single_within b1 base j row here)))) (atom_deeper b3 base j (2 + j) row (omega arith) (within_more b3 b2 base f3 (within_more b2 b1 base f2 here))))
 
 -- what a register of a pixel takes
-pub advance_over : (c new mid one old : Netlist) (p : Pixel) (now next n : Net) → Includes c new → Includes mid one → Includes one old → Contains (p.column ∷ (p.row ∷ [])) now → IsOver one old 3 (p.column ∷ (p.row ∷ [])) next → IsOver new mid 2 (choice_nets mid.enable now next) n → IsOver c old 5 (pixel_nets old.enable p) n
+pub advance_over : (c new mid one old : Netlist) (p : Pixel) (now next n : Net) → Includes c new → Includes mid one → Includes one old → Contains (p.column ∷ (p.row ∷ [])) now → IsOver one old 3 (p.column ∷ (p.row ∷ [])) next → IsOver new mid (1 + hold_levels mid.enable) (choice_nets mid.enable now next) n → IsOver c old 5 (pixel_nets old.enable p) n
 advance_over c new mid one old p now next n f g h at o1 o2 base j all =
     within_more c new base f
-    (within_deeper (omega arith)
+    (within_deeper (omega (arith, few_held mid.enable))
     (o2 base (3 + j)
     (choice_within mid old base j (3 + j) now next (omega arith) (Includes-trans mid one old g h) (λ x k. all x (Contains-append_left (control_nets old.enable) (p.column ∷ (p.row ∷ [])) x k)) (within_deeper (omega arith) (within_more mid one base g (within_more one old base h (pixel now at))))
     (within_deeper (omega arith) (within_more mid one base g (o1 base j pixel))))))
@@ -140,7 +141,7 @@ advance_over c new mid one old p now next n f g h at o1 o2 base j all =
     pixel : (x : Net) → Contains (p.column ∷ (p.row ∷ [])) x → IsWithin old base j (OfNet x)
     pixel x k = all x (Contains-append_right (control_nets old.enable) (p.column ∷ (p.row ∷ [])) x k)
 
-pub pixel_starts : (c b old : Netlist) (p : Pixel) (n : Net) (i k : ℕ) → p.column ≡ Reg i → p.row ≡ Reg k → Includes c b → IsOver b old 5 (pixel_nets old.enable p) n → IsWithin c is_start control_levels (OfNet n)
+pub pixel_starts : (c b old : Netlist) (p : Pixel) (n : Net) (i k : ℕ) → p.column ≡ Reg i → p.row ≡ Reg k → Includes c b → IsOver b old 5 (pixel_nets old.enable p) n → IsWithin c is_start (control_levels c.enable) (OfNet n)
 pixel_starts c b old p n i k at_column at_row f is = within_more c b is_start f (within_deeper (omega arith) (is is_start 0 nets))
   where
     nets : AreWithin old is_start 0 (pixel_nets old.enable p)

@@ -1,7 +1,8 @@
 // Registers of one bit that take tests.
 
-ghost use Rattle.std.specs.Prelude.{◌<◌, ◌^◌, [], ◌∷◌, ◌++◌, IfOk};
+ghost use Rattle.std.specs.Prelude.{◌+◌, ◌<◌, ◌^◌, [], ◌∷◌, ◌++◌, IfOk};
 ghost use Rattle.wiring.specs.Snapshot.{net_value};
+ghost use Rattle.net_build.specs.Depth.{hold_levels};
 ghost use Rattle.net_build.specs.Counters.{control_nets, taken};
 ghost use Rattle.edge_select.specs.Logic.{AreLoaded, HasOneBit, IsBit, WiresFrom};
 ghost use Rattle.edge_select.specs.FrameTests.{AddsRegisterOf, takes, sources};
@@ -38,7 +39,7 @@ fn still_value(b: &mut Builder, register: Net, next: Net, first: u64) -> Result<
     requires register { HasOneBit b.old register }
     requires next { HasOneBit b.old next }
     requires first { first < 2 ^ 1 }
-    ensures { WiresFrom b.new b.old result 2
+    ensures { WiresFrom b.new b.old result (1 + hold_levels b.old.enable)
         (control_nets b.old.enable ++ register ∷ (next ∷ [])) 1
         (λ s. taken b.old.enable first (net_value s register) (net_value s next) s) }
 {

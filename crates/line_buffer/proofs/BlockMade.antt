@@ -304,13 +304,13 @@ module _ (b1 b2 b3 b4 b5 b6 b7 b8 : Netlist) (width words x : ℕ) (value copy a
       within_wire b4 ahead (Word x (atom.Net at.next)) is_start ahead_operators ahead_read
       (All-cons (IsWithin b4 is_start ahead_operators) (OfArray x) (OfNet at.next ∷ []) (by_itself refl) (within_net b4 is_start ahead_operators at.next (within_more b4 b1 is_start f41 (control_path b1 ahead_operators ahead_operators at.next (omega arith) indices.next_control))))
 
-  taken_within : IsTakenOver → IsWithin b8 is_start control_levels (OfNet taken)
+  taken_within : IsTakenOver → IsWithin b8 is_start (control_levels b8.enable) (OfNet taken)
   taken_within over =
       within_more b8 b5 is_start f85
       (within_deeper (omega arith) (over is_start ahead_operators (choice_within b4 b4 is_start 0 ahead_operators copy ahead (omega arith) (Includes-refl b4) (starts_at b4 0) (register_starts b4 ahead_operators r copy copy_reg) ahead_within)))
 
   levels_are : IsTakenOver → EachAdded (SetsWithin b8) b8.updates b1.updates
-  levels_are over = added_as (SetsWithin b8) ((b1.updates ++ u ∷ []) ++ w ∷ []) b8.updates b1.updates updates_are (two_added (SetsWithin b8) b1.updates u w (within_net b8 is_start control_levels taken (taken_within over)) tt)
+  levels_are over = added_as (SetsWithin b8) ((b1.updates ++ u ∷ []) ++ w ∷ []) b8.updates b1.updates updates_are (two_added (SetsWithin b8) b1.updates u w (within_net b8 is_start (control_levels b8.enable) taken (taken_within over)) tt)
 
   pub block_adds : IsTakenOver → AddsBuffer b8 b1 (shape ∷ []) (r ∷ [])
   block_adds over = record {

@@ -271,5 +271,5 @@ module _ (b0 b1 b2 b3 : Netlist) (register now next taken : Net) (bits last : �
   pub cycle_takes : (copies : List ℕ) → IsControlled b0 copies → Contains copies (number register) ⊎ IsControlBut b3 copies (OfNet taken)
   cycle_takes copies controlled = next_takes b0 b1 b2 b3 register taken bits made at logic put taken_made copies controlled
 
-  pub cycle_adds : (NeverStops b0 → NeverStops b3) → ((copies : List ℕ) → IsControlled b0 copies → IsControlled b3 copies) → IsWithin b3 is_start control_levels (OfNet taken) → AddsRegister b3 b0 bits
+  pub cycle_adds : (NeverStops b0 → NeverStops b3) → ((copies : List ℕ) → IsControlled b0 copies → IsControlled b3 copies) → IsWithin b3 is_start (control_levels b3.enable) (OfNet taken) → AddsRegister b3 b0 bits
   cycle_adds stops control short = register_added b0 b1 b2 b3 register taken bits made at logic put (cycle_still b3 k last now next taken now_value next_value taken_value here) taken_made stops control short

@@ -17,7 +17,7 @@ use Rattle.wiring.specs.Netlist.{Netlist, reset_net, enable_net}
 use Rattle.net_build.specs.Includes.{Includes}
 use Rattle.net_build.specs.Control.{is_control}
 use Rattle.net_build.specs.Counters.{control_nets}
-use Rattle.net_build.specs.Depth.{IsWithin, AreWithin, IsOver, by_itself, is_start}
+use Rattle.net_build.specs.Depth.{IsWithin, AreWithin, IsOver, by_itself, is_start, hold_levels}
 use Rattle.net_build.specs.Logic.{IsGate}
 use Rattle.net_build.proofs.Control.{in_control}
 use Rattle.net_build.proofs.Counting.{enable_in, reset_in}
@@ -70,10 +70,15 @@ now_in e now next = Contains-append_right (control_nets e) (now ∷ (next ∷ []
 next_in : (e : Bool) (now next : Net) → Contains (choice_nets e now next) next
 next_in e now next = Contains-append_right (control_nets e) (now ∷ (next ∷ [])) next (second_in now next [])
 
-pub held_over : (b1 b0 : Netlist) (now next en n : Net) → b0.enable ≡ true → en ≡ enable_net → Includes b1 b0 → IsGate b1 b0 (Choose (atom.Net en) (atom.Net next) (atom.Net now)) n → IsOver b1 b0 1 (choice_nets b0.enable now next) n
+pub held_over : (b1 b0 : Netlist) (now next en n : Net) → b0.enable ≡ true → en ≡ enable_net → Includes b1 b0 → IsGate b1 b0 (Choose (atom.Net en) (atom.Net next) (atom.Net now)) n → IsOver b1 b0 (hold_levels b0.enable) (choice_nets b0.enable now next) n
 held_over b1 b0 now next en n on en_is f g base j all =
     let from : List Net = choice_nets b0.enable now next in
-    choose_within b1 b0 base j (atom.Net en) (atom.Net next) (atom.Net now) n g (given_within b1 b0 base j from en f (subst (Contains from) (sym en_is) (enable_in b0.enable (now ∷ (next ∷ [])) on)) all) (given_within b1 b0 base j from next f (next_in b0.enable now next) all) (given_within b1 b0 base j from now f (now_in b0.enable now next) all)
+    subst (λ (e : Bool). IsWithin b1 base (hold_levels e + j) (OfNet n)) (sym on)
+    (choose_within b1 b0 base j (atom.Net en) (atom.Net next) (atom.Net now) n g (given_within b1 b0 base j from en f (subst (Contains from) (sym en_is) (enable_in b0.enable (now ∷ (next ∷ [])) on)) all) (given_within b1 b0 base j from next f (next_in b0.enable now next) all) (given_within b1 b0 base j from now f (now_in b0.enable now next) all))
+
+pub few_held : (e : Bool) → hold_levels e ≤ 1
+few_held true = omega arith
+few_held false = omega arith
 
 -- without en it is what is next
 pub plain_over : (b : Netlist) (k : ℕ) (now next : Net) → IsOver b b k (choice_nets b.enable now next) next
@@ -89,12 +94,12 @@ loaded_over b0 b1 b2 now next reset en going n on reset_is en_is f1 f2 g1 g2 bas
     (atom_deeper b2 base j (1 + j) next (omega arith) (within_more b2 b0 base f20 (all next (next_in b0.enable now next)))) (atom_deeper b2 base j (1 + j) now (omega arith) (within_more b2 b0 base f20 (all now (now_in b0.enable now next)))))
 
 -- a number in a reset clock, and else what is next or held
-pub taken_over : (b0 b1 b2 : Netlist) (now next reset going n : Net) (first : Atom Net) (number : SizedNumber) → reset ≡ reset_net → first ≡ atom.Constant number → Includes b1 b0 → Includes b2 b1 → IsOver b1 b0 1 (choice_nets b0.enable now next) going → IsGate b2 b1 (Choose (atom.Net reset) first (atom.Net going)) n → IsOver b2 b0 2 (choice_nets b0.enable now next) n
-taken_over b0 b1 b2 now next reset going n first number reset_is first_is f1 f2 over g base j all =
+pub taken_over : (b0 b1 b2 : Netlist) (now next reset going n : Net) (first : Atom Net) (number : SizedNumber) (h : ℕ) → reset ≡ reset_net → first ≡ atom.Constant number → Includes b1 b0 → Includes b2 b1 → IsOver b1 b0 h (choice_nets b0.enable now next) going → IsGate b2 b1 (Choose (atom.Net reset) first (atom.Net going)) n → IsOver b2 b0 (1 + h) (choice_nets b0.enable now next) n
+taken_over b0 b1 b2 now next reset going n first number h reset_is first_is f1 f2 over g base j all =
     let from : List Net = choice_nets b0.enable now next in
     let f20 : Includes b2 b0 = Includes-trans b2 b1 b0 f2 f1 in
-    within_deeper (omega arith) (choose_within b2 b1 base (1 + j) (atom.Net reset) first (atom.Net going) n g (atom_deeper b2 base j (1 + j) reset (omega arith) (within_more b2 b0 base f20 (all reset (subst (Contains from) (sym reset_is) (reset_in b0.enable (now ∷ (next ∷ [])))))))
-    (within_constant b2 base (1 + j) first number first_is) (within_net b2 base (1 + j) going (within_more b2 b1 base f2 (over base j all))))
+    within_deeper (omega arith) (choose_within b2 b1 base (h + j) (atom.Net reset) first (atom.Net going) n g (atom_deeper b2 base j (h + j) reset (omega arith) (within_more b2 b0 base f20 (all reset (subst (Contains from) (sym reset_is) (reset_in b0.enable (now ∷ (next ∷ [])))))))
+    (within_constant b2 base (h + j) first number first_is) (within_net b2 base (h + j) going (within_more b2 b1 base f2 (over base j all))))
 
 -- Nets of which something is chosen, of which some are deeper than others.
 pub choice_within : (b old : Netlist) (base : Holder → Bool) (i j : ℕ) (now next : Net) → i ≤ j → Includes b old → AreWithin old base i (control_nets old.enable) → IsWithin b base j (OfNet now) → IsWithin b base j (OfNet next) → AreWithin b base j (choice_nets b.enable now next)
@@ -121,12 +126,12 @@ control_part : (b : Netlist) (base : Holder → Bool) (j : ℕ) (register : Net)
 control_part b base j register all x c = all x (Contains-append_left (control_nets b.enable) (register ∷ []) x c)
 
 -- the register of a count: what it takes
-pub counted_over : (b0 b1 b2 b3 : Netlist) (register index more next : Net) → Includes b1 b0 → Includes b2 b1 → Includes b3 b2 → IsOver b1 b0 1 (register_nets b0.enable register) index → IsOver b2 b1 2 (index ∷ []) more → IsOver b3 b2 2 (choice_nets b2.enable index more) next → IsOver b3 b0 5 (register_nets b0.enable register) next
+pub counted_over : (b0 b1 b2 b3 : Netlist) (register index more next : Net) → Includes b1 b0 → Includes b2 b1 → Includes b3 b2 → IsOver b1 b0 1 (register_nets b0.enable register) index → IsOver b2 b1 2 (index ∷ []) more → IsOver b3 b2 (1 + hold_levels b2.enable) (choice_nets b2.enable index more) next → IsOver b3 b0 5 (register_nets b0.enable register) next
 counted_over b0 b1 b2 b3 register index more next f1 f2 f3 o1 o2 o3 base j all =
     let f20 : Includes b2 b0 = Includes-trans b2 b1 b0 f2 f1 in
     let at : IsWithin b1 base (1 + j) (OfNet index) = o1 base j all in
     let on : IsWithin b2 base (2 + (1 + j)) (OfNet more) = o2 base (1 + j) (single_within b1 base (1 + j) index at) in
-    within_deeper (omega arith) (o3 base (3 + j) (choice_within b2 b0 base j (3 + j) index more (omega arith) f20 (control_part b0 base j register all) (within_deeper (omega arith) (within_more b2 b1 base f2 at)) (within_deeper (omega arith) on)))
+    within_deeper (omega (arith, few_held b2.enable)) (o3 base (3 + j) (choice_within b2 b0 base j (3 + j) index more (omega arith) f20 (control_part b0 base j register all) (within_deeper (omega arith) (within_more b2 b1 base f2 at)) (within_deeper (omega arith) on)))
 
 -- indices: the one that follows, and what the register takes
 pub step_over : (c b0 b1 b2 : Netlist) (register now next : Net) → Includes c b2 → IsOver b1 b0 1 (register_nets b0.enable register) now → IsOver b2 b1 2 (now ∷ []) next → IsOver c b0 3 (register_nets b0.enable register) next

@@ -83,11 +83,11 @@ stops_put b self us x i a same e never inside =
     let there : StaysInside n (x, i) = subst (λ (l : List Update). StaysInside (updated b l) (x, i)) e inside in
     subst (λ (l : List Update). NeverStops (updated b l)) (sym e) (update_stops b (Put x i a) (subst NeverStops (sym same) never) (All-cons (StaysInside n) (x, i) [] there (All-nil (StaysInside n))))
 
-pub control_set : (b self : Netlist) (us : List Update) (r : ℕ) (value : Net) (copies : List ℕ) → b ≡ self → us ≡ b.updates ++ Set r (atom.Net value) ∷ [] → IsControlled self copies → Contains copies r ⊎ IsControlBut (updated b us) copies (OfNet value) → IsWithin (updated b us) is_start control_levels (OfNet value) → IsControlled (updated b us) copies
+pub control_set : (b self : Netlist) (us : List Update) (r : ℕ) (value : Net) (copies : List ℕ) → b ≡ self → us ≡ b.updates ++ Set r (atom.Net value) ∷ [] → IsControlled self copies → Contains copies r ⊎ IsControlBut (updated b us) copies (OfNet value) → IsWithin (updated b us) is_start (control_levels b.enable) (OfNet value) → IsControlled (updated b us) copies
 control_set b self us r value copies same e is takes short =
     let n : Netlist = with_update b (Set r (atom.Net value)) in
     subst (λ (l : List Update). IsControlled (updated b l) copies) (sym e) (update_control b (Set r (atom.Net value)) copies (subst (λ (x : Netlist). IsControlled x copies) (sym same) is) (by takes)
-    (All-cons (IsWithin n is_start control_levels) (OfNet value) [] (subst (λ (l : List Update). IsWithin (updated b l) is_start control_levels (OfNet value)) e short) (All-nil (IsWithin n is_start control_levels))))
+    (All-cons (IsWithin n is_start (control_levels b.enable)) (OfNet value) [] (subst (λ (l : List Update). IsWithin (updated b l) is_start (control_levels b.enable) (OfNet value)) e short) (All-nil (IsWithin n is_start (control_levels b.enable)))))
   where
     by : Contains copies r ⊎ IsControlBut (updated b us) copies (OfNet value) → TakesControl (with_update b (Set r (atom.Net value))) copies (Set r (atom.Net value))
     by (inl c) = inl c

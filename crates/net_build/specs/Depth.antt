@@ -1,5 +1,5 @@
 -- Logic depth: how many operators the paths of assigns to a net have.
-use Rattle.std.specs.Prelude.{◌≡◌, ℕ, ◌+◌, ◌<◌, ◌≤◌, Bool, true, false, IsTrue, List, length, All, Contains}
+use Rattle.std.specs.Prelude.{◌≡◌, ℕ, ◌+◌, ◌<◌, ◌≤◌, Bool, true, false, IsTrue, List, length, if◌then◌else◌, All, Contains}
 use Rattle.wiring.specs.declared.right.Right.{Right}
 use Rattle.wiring.specs.declared.right.Right.TheVariants.{Copy, Not, Binary, Choose, Join, Repeat, Bit, Slice, Word}
 use Rattle.wiring.specs.declared.netlist.Net.{Net}
@@ -50,11 +50,15 @@ pub record AreClockPathsWithin (m : Netlist) (n : ℕ) : Type 0 where
   pub updates : (u : Update) → Contains m.updates u → All (IsWithin m is_start n) (update_reads u)
   pub outputs : (k : ℕ) → k < length m.outputs → IsWithin m is_start n (OfNet (Output k))
 
--- the most operators on a clock path to a register that the builder's users add: to a test of rows, with `en`
-abbrev pub control_levels : ℕ
-control_levels = 7
+-- the choice by en between a new word and the old one
+abbrev pub hold_levels : (enable : Bool) → ℕ
+hold_levels enable = if enable then 1 else 0
+
+-- the most operators on a clock path to a register that the builder's users add: to a test of rows
+abbrev pub control_levels : (enable : Bool) → ℕ
+control_levels enable = 6 + hold_levels enable
 
 -- A register takes what has at most `control_levels` operators on a path.
 abbrev pub SetsWithin : Netlist → Update → Type 0
-SetsWithin b (Set r a) = All (IsWithin b is_start control_levels) (atom_reads a)
+SetsWithin b (Set r a) = All (IsWithin b is_start (control_levels b.enable)) (atom_reads a)
 SetsWithin b (Put x i a) = Unit {0}

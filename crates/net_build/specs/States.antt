@@ -54,7 +54,7 @@ pub record Sets (new old : Netlist) (n v : Net) : Type 0 where
   -- no access is outside its array, if none was
   pub stops : NeverStops old → NeverStops new
   -- registers stay controlled, if this one is a copy or the net is made of rst, en and registers that are no copies, and if its paths are short
-  pub control : (copies : List ℕ) → IsControlled old copies → Contains copies (number n) ⊎ IsControlBut new copies (OfNet v) → IsWithin new is_start control_levels (OfNet v) → IsControlled new copies
+  pub control : (copies : List ℕ) → IsControlled old copies → Contains copies (number n) ⊎ IsControlBut new copies (OfNet v) → IsWithin new is_start (control_levels new.enable) (OfNet v) → IsControlled new copies
 
 -- a word of array x, at the index i, can take the net v
 pub record CanPut (b : Netlist) (x : ℕ) (i v : Net) : Type 0 where

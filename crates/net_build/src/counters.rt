@@ -7,7 +7,7 @@ ghost use Rattle.wiring.specs.Sizes.{IsWidth};
 ghost use Rattle.net_build.specs.Draft.{IsNet};
 ghost use Rattle.wiring.specs.declared.netlist.Holder.TheVariants.{OfNet};
 ghost use Rattle.net_build.specs.Control.{is_control};
-ghost use Rattle.net_build.specs.Depth.{IsOver, IsWithin};
+ghost use Rattle.net_build.specs.Depth.{IsOver, IsWithin, hold_levels};
 ghost use Rattle.net_build.specs.Logic.{AddsLogic};
 ghost use Rattle.net_build.specs.Registers.{register_bits, count_bits};
 ghost use Rattle.net_build.specs.Counters.{control_nets, reached, start_levels, unless_held, taken, loaded, AreChoices, AreRegisterIndices, IsChoice, IsEnding, IsFollowing, IsLoaded, IsRange, IsRegisterCount, MakesCounter, MakesCycle, AddsControl, Starts};
@@ -73,8 +73,8 @@ pub fn unless_held(b: &mut Builder, now: Net, next: Net, bits: u8) -> Result<Net
     requires { AreChoices b.old bits now next }
     ensures logic { AddsLogic b.new b.old }
     ensures net { IfOk result (IsChoice b.new b.old now next bits (unless_held b.old.enable)) }
-    ensures depth { IfOk result
-        (IsOver b.new b.old 1 (control_nets b.old.enable ++ now ∷ (next ∷ []))) }
+    ensures depth { IfOk result (IsOver b.new b.old (hold_levels b.old.enable)
+        (control_nets b.old.enable ++ now ∷ (next ∷ []))) }
 {
     if b.has_en() {
         let en = b.en();
@@ -128,8 +128,8 @@ pub fn register_value(
     requires first { first < 2 ^ bits }
     ensures logic { AddsLogic b.new b.old }
     ensures net { IfOk result (IsChoice b.new b.old now next bits (taken b.old.enable first)) }
-    ensures depth { IfOk result
-        (IsOver b.new b.old 2 (control_nets b.old.enable ++ now ∷ (next ∷ []))) }
+    ensures depth { IfOk result (IsOver b.new b.old (1 + hold_levels b.old.enable)
+        (control_nets b.old.enable ++ now ∷ (next ∷ []))) }
 {
     let going = unless_held(b, now, next, bits)?;
     let reset = b.rst();

@@ -21,5 +21,5 @@ returns c =
       adds = register_adds c.args.b.now c.reg.new.self c.choice_of.new.b c.still_value.new.b c.set.new.self c.args.load c.args.first c.args.test c.in_ok-register.register c.in_ok-next.next c.in_ok-value.value c.in_ok-register.ensures.ok c.in_ok-register.ensures.number c.in_ok-next.ensures.logic c.in_ok-value.ensures.logic c.set.ensures.update c.in_ok-next.ensures.test c.in_ok-value.ensures.test
           c.in_ok-register.ensures.net c.in_ok-register.ensures.width c.set.ensures.edge (λ h. c.set.ensures.stops (c.in_ok-value.ensures.logic.stops (c.in_ok-next.ensures.logic.stops (c.reg.ensures.stops h))))
           (λ copies h is short. c.set.ensures.control copies (c.in_ok-value.ensures.logic.control copies (c.in_ok-next.ensures.logic.control copies (c.reg.ensures.control copies h))) (inr is) short)
-          (value_depth c.args.b.now c.reg.new.self c.choice_of.new.b c.still_value.new.b c.set.new.self c.args.load c.args.test c.in_ok-register.register c.in_ok-next.next c.in_ok-value.value _ c.in_ok-register.ensures.number c.reg.ensures.includes c.set.ensures.includes c.in_ok-next.ensures.depth c.in_ok-value.ensures.depth);
+          (value_depth c.args.b.now c.reg.new.self c.choice_of.new.b c.still_value.new.b c.set.new.self c.args.load c.args.test c.in_ok-register.register c.in_ok-next.next c.in_ok-value.value _ c.in_ok-register.ensures.number c.reg.ensures.includes c.in_ok-value.ensures.logic.includes c.set.ensures.includes c.in_ok-next.ensures.depth c.in_ok-value.ensures.depth);
     }
