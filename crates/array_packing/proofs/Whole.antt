@@ -17,7 +17,7 @@ use Rattle.wiring.specs.Netlist.{Netlist, word_width}
 use Rattle.wiring.specs.Rules.{KeepsRules, AssignIsSound, UpdateIsSound, ArrayIsDeclared}
 use Rattle.wiring.proofs.Lists.{All-from_contains}
 use Rattle.array_packing.specs.declared.slots.Slot.{Slot}
-use Rattle.array_packing.specs.Packing.{assign, whole_slot, whole_slots, IsAssigned, IsUpdated, IsReadOf, IsPutOf, HasSlot, IsPacked, IsFilledTo, IsPacking, as_word, itself, empty, more}
+use Rattle.array_packing.specs.Packing.{assign, PutsJoined, one, whole_slot, whole_slots, IsAssigned, IsUpdated, IsReadOf, IsPutOf, HasSlot, IsPacked, IsFilledTo, IsPacking, as_word, itself, empty, more}
 use Rattle.array_packing.proofs.Simulating.{zip_from}
 
 whole_at : (x : ℕ) (arrays : List Shape) (k : ℕ) (s : Shape) → slice_get arrays k ≡ Some s → slice_get (whole_slots x arrays) k ≡ Some (whole_slot (x + k) s)
@@ -94,6 +94,10 @@ module _ (m : Netlist) (rules : KeepsRules m) where
       let f = find x ok.0 in
       (x, whole_slot x f.shape, a, slot_at x f.shape f.at, refl, c)
 
+  joined_of : (u : Update) → Contains m.updates u → PutsJoined m m u
+  joined_of (Set r a) c = tt
+  joined_of (Put x i a) c = one (x, c)
+
   array_there : (a : Assign) → Contains m.assigns a → ArrayIsDeclared m a.right
   array_there a c = (All-contains (AssignIsSound m) m.assigns a rules.assigns c).right.array
 
@@ -112,6 +116,7 @@ module _ (m : Netlist) (rules : KeepsRules m) where
     updates = All-from_contains (IsUpdated m slots) m.updates (λ u c. updated u c (update_sound u c));
     reads = All-from_contains (λ (a : Assign). IsReadOf m slots a.right) m.assigns (λ a c. read_of a.target a.right c (array_there a c));
     puts = All-from_contains (IsPutOf m slots) m.updates (λ u c. put_of u c (update_sound u c));
+    joined = All-from_contains (PutsJoined m m) m.updates joined_of;
   }
 
   pub whole_packing : IsPacking m m slots

@@ -65,6 +65,24 @@ abbrev pub IsPutOf : Netlist → List Slot → Update → Type 0
 IsPutOf old slots (Set r a) = Unit {0}
 IsPutOf old slots (Put g i v) = (x : ℕ) × (k : Slot) × (a : Atom Net) × (slice_get slots x ≡ Some k) × (k.array ≡ g) × Contains old.updates (Put x i a)
 
+-- one of the updates puts this value at this index
+abbrev pub IsPutAmong : List Update → (i a : Atom Net) → Type 0
+IsPutAmong updates i a = (x : ℕ) × Contains updates (Put x i a)
+
+-- the value is the net of this join
+abbrev pub IsJoin : Netlist → (whole a b : Atom Net) → Type 0
+IsJoin m whole a b = (n : Net) × (whole ≡ atom.Net n) × Contains m.assigns (assign n (Join a b))
+
+-- The value is one that the old netlist puts at this index, or such a value joined with one that is joined so.
+pub data IsJoinedOf (new old : Netlist) (i : Atom Net) : Atom Net → Type 0 where
+  one : {a : Atom Net} → IsPutAmong old.updates i a → IsJoinedOf new old i a
+  more : {whole : Atom Net} (a rest : Atom Net) → IsJoin new whole a rest → IsPutAmong old.updates i a → IsJoinedOf new old i rest → IsJoinedOf new old i whole
+
+-- what is put is
+abbrev pub PutsJoined : (new old : Netlist) → Update → Type 0
+PutsJoined new old (Set r a) = Unit {0}
+PutsJoined new old (Put x i a) = IsJoinedOf new old i a
+
 -- the slot is inside an array of as many words
 pub record HasSlot (new : Netlist) (k : Slot) (s : Shape) : Type 0 where
   pub width : k.width ≡ s.width
@@ -72,7 +90,7 @@ pub record HasSlot (new : Netlist) (k : Slot) (s : Shape) : Type 0 where
   pub at : slice_get new.arrays k.array ≡ Some there
   pub depth : there.depth ≡ s.depth
 
--- The new netlist is the old one with its arrays packed.
+-- The new netlist is the old one with its arrays packed. Each put is of a value that is joined of values that the old one puts.
 pub record IsPacked (new old : Netlist) (slots : List Slot) : Type 0 where
   pub enable : new.enable ≡ old.enable
   pub inputs : new.inputs ≡ old.inputs
@@ -84,6 +102,7 @@ pub record IsPacked (new old : Netlist) (slots : List Slot) : Type 0 where
   pub updates : All (IsUpdated new slots) old.updates
   pub reads : All (λ (a : Assign). IsReadOf old slots a.right) new.assigns
   pub puts : All (IsPutOf old slots) new.updates
+  pub joined : All (PutsJoined new old) new.updates
 
 -- in this array, slots one above the other fill the bits from 0 to this one
 pub data IsFilledTo (slots : List Slot) (array : ℕ) : ℕ → Type 0 where
@@ -112,6 +131,10 @@ pub record IsPacking (new old : Netlist) (slots : List Slot) : Type 0 where
   pub once : AreAccessedOnce old → AreAccessedOnce new
 
 -- Used by private functions only.
+-- if this part is joined of what the old netlist puts, so is the whole
+abbrev pub IsRestOf : (new old : Netlist) → (i whole rest : Atom Net) → Type 0
+IsRestOf new old i whole rest = IsJoinedOf new old i rest → IsJoinedOf new old i whole
+
 -- 1 if this array was accessed
 abbrev pub marked : List Bool → ℕ → ℕ
 marked seen x = if slice_index_or seen x false then 1 else 0

@@ -7,6 +7,7 @@ ghost use Rattle.wiring.specs.Rights.{atom_width};
 ghost use Rattle.wiring.specs.Netlist.{netlist_of, net_width, word_width};
 ghost use Rattle.array_packing.specs.Packing.{assign, IsReadAt, HoldsPart, IsAssigned, IsUpdated, IsReadOf, IsPutOf, IsInner, IsPacked};
 
+use crate::joins::are_joined;
 use crate::nets::{has_nets, have_slots};
 use crate::slots::Slot;
 use wiring::{Assign, Atom, Net, Netlist, Right, Update, Width};
@@ -62,7 +63,7 @@ pub(crate) struct Added {
 }
 
 // Where a net's assign should be; nothing is claimed of it.
-fn place_of(added: Added, net: Net) -> usize {
+pub(crate) fn place_of(added: Added, net: Net) -> usize {
     match net {
         Net::Wire(w) => w.saturating_sub(added.wire).saturating_add(added.assign),
         _ => added.assign,
@@ -264,7 +265,12 @@ fn has_set(updates: &[Update], place: usize, reg: usize, value: &Atom<Net>) -> b
 }
 
 // What the update at this place puts into this array at this index.
-fn put_at(updates: &[Update], place: usize, array: usize, index: &Atom<Net>) -> Option<Atom<Net>>
+pub(crate) fn put_at(
+    updates: &[Update],
+    place: usize,
+    array: usize,
+    index: &Atom<Net>,
+) -> Option<Atom<Net>>
     ensures { IfSome result (λ v. Contains updates.now (Put array index.now v)) }
 {
     let Some(Update::Put(found, at, value)) = updates.get(place) else {
@@ -383,7 +389,7 @@ fn are_puts_of(m: &Netlist, slots: &[Slot], places: &[usize], updates: &[Update]
     true
 }
 
-// Where the new netlist should have what the old one has, and the other way round: of each old update the new one, of each new assign that reads a word an old one that does, of each new put an old one. Nothing is claimed of it.
+// Where the new netlist should have what the old one has, and the other way round: of each old update the new one, of each new assign that reads a word an old one that does, of each new assign that joins the old update that puts its upper part, of each new put an old one. Nothing is claimed of it.
 #[derive(Debug, Drop)]
 pub(crate) struct PackingHints {
     pub updates: Vec<usize>,
@@ -414,5 +420,8 @@ pub(crate) fn is_packed(new: &Netlist, old: &Netlist, slots: &[Slot], hints: &Pa
     if !are_reads_of(old, slots, &hints.reads, &new.assigns) {
         return false;
     }
-    are_puts_of(old, slots, &hints.puts, &new.updates)
+    if !are_puts_of(old, slots, &hints.puts, &new.updates) {
+        return false;
+    }
+    are_joined(new, old, &hints.reads, &hints.puts, &new.updates)
 }

@@ -4,6 +4,7 @@
 mod check;
 mod filled;
 mod groups;
+mod joins;
 mod laws;
 mod nets;
 mod once;

@@ -41,11 +41,11 @@ impl PackingPlan {
         Some((index, used.put))
     }
 
-    // The value that is put into an array.
-    fn put_value(&self, old: &Netlist, array: usize) -> Option<Atom<Net>> {
+    // The value that is put into an array, with the place of the update that puts it.
+    fn put_value(&self, old: &Netlist, array: usize) -> Option<(Atom<Net>, usize)> {
         let used = self.uses.get(array)?;
         let (_, value) = put_of(old, used.put)?;
-        Some(value)
+        Some((value, used.put))
     }
 
     // The right side with words of packed arrays as slices.
@@ -142,18 +142,19 @@ impl PackingProposal {
         Ok(())
     }
 
-    // The value with one more above what is joined already.
+    // The value with one more, which the update at this place puts, above what is joined already.
     fn join(
         &mut self,
         below: Option<Joined>,
         value: Atom<Net>,
         width: u8,
+        source: usize,
     ) -> Result<Joined, OutOfMemory> {
         let Some(low) = below else {
             return Ok(Joined { value, bits: width });
         };
         let bits = low.bits.saturating_add(width);
-        let wire = self.add_wire(bits, Right::Join(value, low.value), 0)?;
+        let wire = self.add_wire(bits, Right::Join(value, low.value), source)?;
         Ok(Joined {
             value: Atom::Net(wire),
             bits,
@@ -169,11 +170,11 @@ impl PackingProposal {
     ) -> Result<Vec<Option<Joined>>, OutOfMemory> {
         let mut joined = vec![in alloc; None; plan.columns.len()]?;
         for (array, slot) in plan.slots.iter().enumerate() {
-            let Some(value) = plan.put_value(old, array) else {
+            let Some((value, source)) = plan.put_value(old, array) else {
                 continue;
             };
             let below = joined.get(slot.array).copied().flatten();
-            let whole = self.join(below, value, slot.width)?;
+            let whole = self.join(below, value, slot.width, source)?;
             if let Some(place) = joined.get_mut(slot.array) {
                 *place = Some(whole);
             }

@@ -1,9 +1,10 @@
 -- What the module of a circuit does, once all its images are built.
-use Rattle.std.proofs.Common.{◌≡◌, ◌⊎◌, ℕ, suc, ◌+◌, ◌-◌, ◌*◌, ◌<◌, ◌≤◌, Bool, false, List, [], ◌∷◌, ◌++◌, length, map, Some, refl, sym, ap, subst, ◌∙◌, inl, inr, arith, take, length-append}
-use Rattle.std.specs.Prelude.{pos, IsTrue, Contains, slice_get, slice_index, slice_index_or, unwrap_or}
+use Rattle.std.proofs.Common.{◌≡◌, ◌⊎◌, ℕ, suc, ◌+◌, ◌-◌, ◌*◌, ◌<◌, ◌≤◌, Bool, true, false, List, [], ◌∷◌, ◌++◌, length, map, Some, refl, sym, ap, subst, ◌∙◌, inl, inr, arith, take, length-append}
+use Rattle.std.specs.Prelude.{pos, IsTrue, All, max, Contains, slice_get, slice_index, slice_index_or, unwrap_or}
 use Rattle.std.specs.Option.{option_map}
 use Rattle.std.proofs.lemmas.Int.{ints}
 use Rattle.std.proofs.lemmas.List.Elements.{All-weaker, All-contains}
+use Rattle.std.proofs.Math.Nat.{le-max_left}
 use Rattle.std.proofs.lemmas.Bool.{cases_lt}
 use Rattle.std.proofs.lemmas.Option.{slice_get_within, slice_get-get_or}
 use Rattle.std.proofs.lemmas.List.{get_or-map, length-map, take_all}
@@ -13,6 +14,7 @@ use Rattle.dk_base.specs.Types.{width_of as bits_of_type}
 use Rattle.dk_base.specs.Stencils.{IsRead, place}
 use Rattle.dk_base.proofs.Orders.{number_at, at_place, place_at, kept_at}
 use Rattle.raster_delay.specs.Systems.{depth}
+use Rattle.wiring.specs.declared.right.Atom.{Atom}
 use Rattle.wiring.specs.declared.right.Atom.TheVariants as atom
 use Rattle.wiring.specs.declared.right.Right.TheVariants.{Copy}
 use Rattle.wiring.specs.declared.netlist.Net.{Net}
@@ -23,7 +25,7 @@ use Rattle.wiring.specs.declared.netlist.Update.TheVariants.{Set, Put}
 use Rattle.wiring.specs.declared.netlist.Holder.{Holder}
 use Rattle.wiring.specs.declared.netlist.Holder.TheVariants.{OfNet, OfArray}
 use Rattle.wiring.specs.Netlist.{Netlist, net_width, din_net, valid_net, dout_net, depth as array_depth}
-use Rattle.wiring.specs.BufferBits.{array_bits, chosen_bits, atom_reads, IsBufferBits}
+use Rattle.wiring.specs.BufferBits.{array_bits, chosen_bits, atom_reads, update_reads, IsBufferBits}
 use Rattle.wiring.specs.Rules.{UpdateIsSound}
 use Rattle.wiring.specs.Snapshot.{Contents, Snapshot, net_value}
 use Rattle.wiring.specs.Clock.{Clock, bit}
@@ -31,13 +33,16 @@ use Rattle.wiring.specs.History.{was_reset, counted}
 use Rattle.net_build.specs.Includes.{Includes, InEach}
 use Rattle.net_build.specs.Draft.{IsNet, UpdatesDiffer, flat}
 use Rattle.net_build.specs.Runs.{IsClockOf, InEachRun, IsWhole, RunsOn}
-use Rattle.net_build.specs.Control.{FedOnly, IsMadeOf, is_control, is_control_but, IsControl, IsControlBut, TakesControl, IsControlled, AddsReads}
+use Rattle.net_build.specs.Control.{FedOnly, IsMadeOf, is_control, is_control_but, IsControlBut, TakesControl, IsControlled, AddsReads}
 use Rattle.net_build.specs.Indices.{read_indices, put_indices}
 use Rattle.net_build.proofs.Parts.{Includes-refl, Includes-trans}
 use Rattle.net_build.proofs.Runs.{clock_more}
 use Rattle.net_build.proofs.Grown.{net_more, width_more}
-use Rattle.net_build.specs.Depth.{IsWithin}
-use Rattle.net_build.proofs.Depth.{within_more, within_deeper, within_wire, within_net}
+use Rattle.net_build.specs.Depth.{IsWithin, by_itself, is_start, hold_levels, control_levels, SetsWithin}
+use Rattle.net_build.proofs.Depth.{within_more, within_wider, within_made, within_deeper, within_wire, within_net}
+use Rattle.net_build.proofs.Levels.{control_path}
+use Rattle.circuit.specs.Paths.{HasLevelsWithin, BoundsLevels, HasClockPaths}
+use Rattle.circuit.proofs.Clocked.{source_start, copied_within, is_pair, index_within, put_within}
 use Rattle.net_build.proofs.Control.{made_more, made_wider, made_wire, made_net, outputs_control}
 use Rattle.net_build.proofs.Reading.{outputs_read}
 use Rattle.net_build.proofs.Indexed.{reads_last, puts_last}
@@ -56,7 +61,9 @@ use Rattle.line_buffer.proofs.Ages.{age_within}
 use Rattle.circuit.specs.Rounds.{Rounds, AreRounds, Feeds, type_at, pixel_bits, pixel_count}
 use Rattle.circuit.specs.Taps.{Keeps, taps_at, HaveTaps, IsTapOf, AreTapsOf, HasControl, size_in}
 use Rattle.line_buffer.specs.Fills.{HasRight, AreFilled}
-use Rattle.line_buffer.proofs.Filling.{fills_more, index_control_more}
+use Rattle.line_buffer.proofs.Filling.{fills_more}
+use Rattle.line_buffer.proofs.Depth.{index_within_more}
+use Rattle.line_buffer.specs.Depths.{line_operators}
 use Rattle.circuit.specs.Forms.{Shapes, Form, HasProperty, shapes_of, first_array, end_array}
 use Rattle.edge_select.specs.declared.frame_tests.FrameTests.{FrameTests}
 use Rattle.circuit.specs.Images.{IsLine, IsOverReads, HasTapsOf, AreBuilt, AreBuiltWith, words_in, reads_directly, tap_source_of, source_of, direct_source, image_levels}
@@ -64,7 +71,7 @@ use Rattle.circuit.proofs.Keeping.{adds_for}
 use Rattle.circuit.specs.Behaviour.{net_of, is_valid, ShowsPixels, read_net, AreReadNets, Behaves, HasPorts}
 use Rattle.circuit.specs.Nets.{AreNetsOf, IsApart, kept_source_of, HasReadNets, IsComputed, AreComputed}
 use Rattle.circuit.specs.Modules.{CopyLongArrays, AddsCopies, HasBits, ReadsOnly, IsModuleOf}
-use Rattle.circuit.specs.Ends.{output_in, CanEnd, IsClosed}
+use Rattle.circuit.specs.Ends.{valid_levels, output_in, CanEnd, IsClosed}
 use Rattle.circuit.specs.Registers.{CountsRegisters, HasRegisters}
 use Rattle.net_build.specs.Registers.{register_bits, distinct}
 use Rattle.line_buffer.specs.declared.sharing.Turns.{Turns}
@@ -78,12 +85,12 @@ use Rattle.circuit.proofs.Sourced.{source_kept, control_kept, own_kept, control_
 use Rattle.circuit.proofs.Building.{place_of_entry, entry_kept, built_lasts}
 use Rattle.circuit.proofs.Typing.{entry_or, plan_width}
 use Rattle.circuit.proofs.Forming.{plan_depth, plan_wide}
-use Rattle.circuit.specs.Depths.{ChoosesAmong}
+use Rattle.circuit.specs.Depths.{ChoosesAmong, test_levels}
 use Rattle.circuit.proofs.BodyNets.{read_of}
 use Rattle.circuit.proofs.Computed.{one_tap}
 use Rattle.circuit.proofs.Netted.{place_of, shows_only, output_right, some_array, put_made, first_stores, later_stores, long_copied}
 use Rattle.wiring.proofs.Search.{at_push}
-use Rattle.circuit.proofs.Leaving.{flat_at}
+use Rattle.circuit.proofs.Leaving.{flat_at, valids_long}
 use Rattle.circuit.proofs.Registered.{none_asked}
 
 -- the buffer bits are those of the arrays and of the copies that a din reaches, where no other register is reached
@@ -538,11 +545,14 @@ module _ (m b : Netlist) (p : Program) (plan : Plan) (form : Form) (nets : List 
       let kept : Keeps plan g = subst (Keeps plan) (ap (λ (os : List ℕ). slice_index os k) stencils.outputs) (output_kept plan k is listed) in
       made_wire m (dout_net k) (Copy (atom.Net (net_of plan nets g))) (direct_source form plan) (dout_right k g at) (made_net m (direct_source form plan) (net_of plan nets g) (direct_net g kept))
 
+  valid_within : (k : ℕ) → k < length p.outputs → IsWithin m (is_control m.enable) valid_levels (OfNet (out k).0)
+  valid_within k lt = index_within_more m last valid_levels (out k).0 grows (closed.are_outs.valid k (out k) (out_at k lt)).depth
+
   direct_valid : (k : ℕ) → k < length p.outputs → IsMadeOf m (direct_source form plan) (OfNet (valid_net k))
   direct_valid k lt =
       let base : Holder → Bool = direct_source form plan in
       let net : Net = (out k).0 in
-      let control : IsControl m (OfNet net) = index_control_more m last net grows (closed.are_outs.valid k (out k) (out_at k lt)).control in
+      let control : IsMadeOf m (is_control m.enable) (OfNet net) = within_made (valid_within k lt) in
       made_wire m (valid_net k) (Copy (atom.Net net)) base (output_right m last (flat closed.outs) (2 * k) net closed.driven (flat_at closed.outs k (out k) (out_at k lt)).0)
       (made_net m base net (made_wider m (is_control m.enable) base (control_direct form plan m.enable) control))
 
@@ -560,6 +570,75 @@ module _ (m b : Netlist) (p : Program) (plan : Plan) (form : Form) (nets : List 
       let g : ℕ = (owns x there).image.number in
       let kept : Keeps plan g = owner_kept x there in
       put_made m form plan copies g (net_of plan nets g) (filled g kept) (direct_source form plan) (control_direct form plan m.enable) (λ y own short. short) closed.whole.rules.updated (direct_net g kept) x (Put x i a) (owner_low x there) (owner_high x there) at refl
+
+  valid_path : (k : ℕ) → k < length p.outputs → IsWithin m is_start valid_levels (OfNet (valid_net k))
+  valid_path k low = copied_within m (valid_net k) (out k).0 valid_levels (output_right m last (flat closed.outs) (2 * k) (out k).0 closed.driven (flat_at closed.outs k (out k) (out_at k low)).0) (control_path m valid_levels valid_levels (out k).0 (omega arith) (valid_within k low))
+
+  -- the clock paths
+  module _ (aged : 1 ≤ plan.system.age) (n : ℕ) (bound : BoundsLevels p plan form m.enable n) where
+    -- an image's net, with what it leaves over
+    net_within : (g : ℕ) → Keeps plan g → (j : ℕ) × (line_operators ≤ j) × (j + hold_levels m.enable ≤ n) × IsWithin m is_start j (OfNet (net_of plan nets g))
+    net_within g kept =
+        elim (cases_lt g (length p.inputs)) as (λ _. (j : ℕ) × (line_operators ≤ j) × (j + hold_levels m.enable ≤ n) × IsWithin m is_start j (OfNet (net_of plan nets g))) [
+          | inl low ↦ (1, omega arith, few m.enable, subst (λ (x : Net). IsWithin m is_start 1 (OfNet x)) (sym ((line g kept).input low)) (by_itself refl))
+          | inr past ↦
+              let has : HasLevelsWithin p plan form m.enable g n = bound.image g kept past in
+              let j : ℕ = image_levels form has.body has.choices in
+              let deep : IsWithin last (source_of form plan g last.enable) j (OfNet (net_of plan nets g)) = (line g kept).levels aged has.body has.choices has.is_body has.among in
+              (j, some has.body has.choices, has.within, within_more m last is_start grows (within_wider last (source_of form plan g last.enable) is_start (source_start form plan g last.enable) deep))
+        ]
+      where
+        few : (e : Bool) → 1 + hold_levels e ≤ n
+        few true = (let h = bound.control in omega (arith, h))
+        few false = (let h = bound.control in omega (arith, h))
+
+        some : (e : Tree) (k : ℕ) → line_operators ≤ image_levels form e k
+        some e k = (let l : test_levels ≤ max test_levels form.tap_levels = le-max_left test_levels form.tap_levels in omega (arith, l))
+
+    update_within : (u : Update) → Contains m.updates u → All (IsWithin m is_start n) (update_reads u)
+    update_within (Set r a) at = All-weaker (IsWithin m is_start (control_levels m.enable)) (IsWithin m is_start n) (λ h is. within_deeper bound.control is) (atom_reads a) (All-contains (SetsWithin m) m.updates (Set r a) controlled.levels at)
+    update_within (Put x i a) at =
+        let there : x < length m.arrays = (All-contains (UpdateIsSound m) m.updates (Put x i a) closed.whole.rules.updates at).0 in
+        let g : ℕ = (owns x there).image.number in
+        let kept : Keeps plan g = owner_kept x there in
+        let net = net_within g kept in
+        put_within m form plan copies g (net_of plan nets g) (filled g kept) net.0 n net.1 net.2 (let h = bound.control in omega (arith, h)) closed.whole.rules.updated net.3 x (Put x i a) (owner_low x there) (owner_high x there) at refl
+
+    output_within : (k : ℕ) → k < length m.outputs → IsWithin m is_start n (OfNet (Output k))
+    output_within k lt = by (is_pair k)
+      where
+        count : length m.outputs ≡ 2 * length p.outputs
+        count = ap length ports.outputs ∙ valids_long (map (λ (g : ℕ). bits_of_type (type_at p g)) p.outputs) ∙ ap (λ (l : ℕ). 2 * l) (length-map p.outputs (λ (g : ℕ). bits_of_type (type_at p g)))
+
+        is_valid_net : (i : ℕ) → i < length p.outputs → IsWithin m is_start n (OfNet (valid_net i))
+        is_valid_net i low = within_deeper (let h = bound.control in omega (arith, h)) (valid_path i low)
+
+        is_dout_net : (i : ℕ) → i < length p.outputs → IsWithin m is_start n (OfNet (dout_net i))
+        is_dout_net i low =
+            let g : ℕ = slice_index p.outputs i in
+            let at : slice_get p.outputs i ≡ Some g = slice_get-get_or p.outputs i 0 low in
+            let listed : i < length plan.system.stencils.outputs = omega (arith, low, ap length stencils.outputs) in
+            let kept : Keeps plan g = subst (Keeps plan) (ap (λ (os : List ℕ). slice_index os i) stencils.outputs) (output_kept plan i is listed) in
+            let net = net_within g kept in
+            copied_within m (dout_net i) (net_of plan nets g) n (dout_right i g at) (within_deeper (let h = net.2 in omega (arith, h)) net.3)
+
+        by : (i : ℕ) × ((k ≡ 2 * i) ⊎ (k ≡ 2 * i + 1)) → IsWithin m is_start n (OfNet (Output k))
+        by (i, inl e) = subst (λ (j : ℕ). IsWithin m is_start n (OfNet (Output j))) (sym e) (is_valid_net i (omega (arith, e, lt, count)))
+        by (i, inr e) = subst (λ (j : ℕ). IsWithin m is_start n (OfNet (Output j))) (sym e) (is_dout_net i (omega (arith, e, lt, count)))
+
+  put_index : (x : ℕ) (i a : Atom Net) → Contains m.updates (Put x i a) → All (IsWithin m is_start line_operators) (atom_reads i)
+  put_index x i a at =
+      let there : x < length m.arrays = (All-contains (UpdateIsSound m) m.updates (Put x i a) closed.whole.rules.updates at).0 in
+      let g : ℕ = (owns x there).image.number in
+      index_within m form plan copies g (net_of plan nets g) (filled g (owner_kept x there)) closed.whole.rules.updated x i a (owner_low x there) (owner_high x there) at
+
+  pub clock_paths : HasClockPaths m p plan form
+  clock_paths = record {
+    registers = λ u at. All-contains (SetsWithin m) m.updates u controlled.levels at;
+    indices = put_index;
+    valids = valid_path;
+    all = λ aged n bound. record { updates = update_within aged n bound; outputs = output_within aged n bound };
+  }
 
   copied : CopyLongArrays m form.long copies
   copied = record {

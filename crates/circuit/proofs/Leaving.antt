@@ -14,13 +14,13 @@ use Rattle.net_build.proofs.Grown.{net_more, width_more}
 use Rattle.net_build.proofs.Runs.{clock_more}
 use Rattle.net_build.proofs.Updating.{all_updated}
 use Rattle.buffer_plan.specs.Plans.{Plan, latency_of}
-use Rattle.line_buffer.proofs.Filling.{index_control_more}
+use Rattle.line_buffer.proofs.Depth.{index_within_more}
 use Rattle.circuit.specs.Behaviour.{net_of}
-use Rattle.circuit.specs.Ends.{IsStarted, AreOuts, output_in, IsValidOf, AreValids, IsOut, IsSharedBy, AreShared, CanEnd}
+use Rattle.circuit.specs.Ends.{valid_levels, IsStarted, AreOuts, output_in, IsValidOf, AreValids, IsOut, IsSharedBy, AreShared, CanEnd}
 
 -- a valid lasts
 started_more : (new old : Netlist) (latency : ℕ) (n : Net) → Includes new old → IsStarted old latency n → IsStarted new latency n
-started_more new old latency n grows is = record { control = index_control_more new old n grows is.control; started = λ m from before c s clock since. is.started m from before c s (clock_more new old m from before c s grows clock) since }
+started_more new old latency n grows is = record { depth = index_within_more new old valid_levels n grows is.depth; started = λ m from before c s clock since. is.started m from before c s (clock_more new old m from before c s grows clock) since }
 
 out_more : (new old : Netlist) (plan : Plan) (nets : List Net) (k : ℕ) (out : Net × Net) → Includes new old → IsOut old plan nets k out → IsOut new plan nets k out
 out_more new old plan nets k out grows is = record {
@@ -98,11 +98,11 @@ flat_at (p ∷ outs) (suc k) o at =
       subst (λ (j : ℕ). slice_get (flat (p ∷ outs)) j ≡ Some o.1) (let e : suc (suc (2 * k + 1)) ≡ 2 * suc k + 1 = omega arith in e) rest.1,
     )
 
-flat_long : (outs : List (Net × Net)) → length (flat outs) ≡ 2 * length outs
+pub flat_long : (outs : List (Net × Net)) → length (flat outs) ≡ 2 * length outs
 flat_long [] = refl
 flat_long (o ∷ outs) = (let rest = flat_long outs in omega (arith, rest))
 
-valids_long : (ws : List ℕ) → length (with_valids ws) ≡ 2 * length ws
+pub valids_long : (ws : List ℕ) → length (with_valids ws) ≡ 2 * length ws
 valids_long [] = refl
 valids_long (w ∷ ws) = (let rest = valids_long ws in omega (arith, rest))
 

@@ -26,6 +26,7 @@ pub mod Divisions
 pub mod Forming
 pub mod Leaving
 pub mod Netted
+pub mod Clocked
 pub mod Behaving
 pub mod Counting
 mod Computed

@@ -19,7 +19,10 @@ use Rattle.wiring.specs.BufferBits.{array_bits, update_reads}
 use Rattle.wiring.specs.Rules.{DrivenOnce, UpdatedOnce}
 use Rattle.wiring.specs.Netlist.{Netlist, enable_net, update_target}
 use Rattle.net_build.specs.Draft.{output_assign, output_assigns, with_outputs}
-use Rattle.net_build.specs.Control.{IsMadeOf, by_itself, is_control, IsControl}
+use Rattle.net_build.specs.Control.{IsMadeOf, by_itself, is_control}
+use Rattle.net_build.specs.Depth.{IsWithin}
+use Rattle.net_build.proofs.Depth.{within_made}
+use Rattle.line_buffer.specs.Depths.{line_operators}
 use Rattle.net_build.proofs.Control.{made_wider, made_wire}
 use Rattle.buffer_plan.specs.Plans.{Plan}
 use Rattle.line_buffer.specs.Fills.{HasRight, IsUnlessHeld, ShowsWord, by_read, by_copy, Takes, IsFilled, AreFilled}
@@ -44,7 +47,7 @@ only_assign m driven a z at_a at_z e =
     let same : i.0 ≡ j.0 = driven.one i.0 j.0 a z i.1 j.1 e in
     same_Some a z (sym i.1 ∙ ap (λ (k : ℕ). slice_get m.assigns k) same ∙ j.1)
 
-only_update : (m : Netlist) → UpdatedOnce m → (u v : Update) → Contains m.updates u → Contains m.updates v → update_target u ≡ update_target v → u ≡ v
+pub only_update : (m : Netlist) → UpdatedOnce m → (u v : Update) → Contains m.updates u → Contains m.updates v → update_target u ≡ update_target v → u ≡ v
 only_update m updated u v at_u at_v e =
     let i = place_of m.updates u at_u in
     let j = place_of m.updates v at_v in
@@ -91,11 +94,11 @@ module _ (m : Netlist) (form : Form) (plan : Plan) (copies : List ℕ) (f : ℕ)
     enable_own true e = refl
     enable_own false e = absurd (let f : ⊥ = cc in f)
 
-    index_made : (n : Net) → IsControl m (OfNet n) → IsMadeOf m base (OfNet n)
-    index_made n is = made_wider m (is_control m.enable) base control is
+    index_made : (n : Net) → IsWithin m (is_control m.enable) line_operators (OfNet n) → IsMadeOf m base (OfNet n)
+    index_made n is = made_wider m (is_control m.enable) base control (within_made is)
 
     -- a word is read from an array that is not long, or is a register
-    word_made : (x : ℕ) (index word : Net) → first_array form.shapes plan f ≤ x → x < end_array form.shapes plan f → IsControl m (OfNet index) → ShowsWord m (reads_directly form plan) copies x index word → IsMadeOf m base (OfNet word)
+    word_made : (x : ℕ) (index word : Net) → first_array form.shapes plan f ≤ x → x < end_array form.shapes plan f → IsWithin m (is_control m.enable) line_operators (OfNet index) → ShowsWord m (reads_directly form plan) copies x index word → IsMadeOf m base (OfNet word)
     word_made x index word low high is (by_read short read) =
         made_wire m word (Word x (atom.Net index)) base read
         (All-cons (IsMadeOf m base) (OfArray x) (OfNet index ∷ []) (by_itself (own x (among x low high) short)) (All-cons (IsMadeOf m base) (OfNet index) [] (index_made index is) (All-nil (IsMadeOf m base))))

@@ -1,5 +1,5 @@
 -- When pixels leave.
-use Rattle.std.proofs.Common.{◌≡◌, ℕ, Bool, true, false, [], ◌∷◌, length, refl, sym, ap, subst, ◌∙◌, arith}
+use Rattle.std.proofs.Common.{◌≡◌, ◌+◌, ◌≤◌, ℕ, Bool, true, false, [], ◌∷◌, length, refl, sym, ap, subst, ◌∙◌, arith}
 use Rattle.std.proofs.lemmas.List.Elements.{All-nil, All-cons}
 use Rattle.std.specs.Prelude.{if◌then◌else◌, ◌&&◌, not, nat_le, bit_and}
 use Rattle.wiring.specs.declared.netlist.Net.{Net}
@@ -12,18 +12,19 @@ use Rattle.wiring.specs.Clock.{bit}
 use Rattle.wiring.specs.History.{counted}
 use Rattle.wiring.specs.declared.netlist.Holder.TheVariants.{OfNet}
 use Rattle.net_build.specs.Includes.{Includes}
-use Rattle.net_build.specs.Control.{IsMadeOf, IsControl, is_control}
-use Rattle.net_build.proofs.Control.{control_own}
-use Rattle.line_buffer.proofs.Filling.{index_control_more}
+use Rattle.net_build.specs.Control.{is_control}
+use Rattle.net_build.specs.Depth.{IsWithin, by_itself}
+use Rattle.net_build.proofs.Depth.{within_deeper}
+use Rattle.line_buffer.proofs.Depth.{index_within_more}
 use Rattle.net_build.specs.Logic.{IsGate}
-use Rattle.net_build.specs.Counters.{Starts}
+use Rattle.net_build.specs.Counters.{Starts, start_levels}
 use Rattle.net_build.proofs.Runs.{clock_more, enable_shown}
-use Rattle.circuit.specs.Ends.{IsStarted}
+use Rattle.circuit.specs.Ends.{IsStarted, valid_levels}
 
 -- without en
-pub started_free : (b : Netlist) (latency : ℕ) (n : Net) → b.enable ≡ false → Starts b latency n → IsControl b (OfNet n) → IsStarted b latency n
-started_free b latency n free is control = record {
-  control = control;
+pub started_free : (b : Netlist) (latency : ℕ) (n : Net) → b.enable ≡ false → Starts b latency n → IsWithin b (is_control b.enable) start_levels (OfNet n) → IsStarted b latency n
+started_free b latency n free is depth = record {
+  depth = within_deeper (omega arith) depth;
   started = λ m from before c s clock since. is.shown m from before c s clock since ∙ by m.enable c.reset c.enable (nat_le latency (length (counted m before))) (clock.whole.includes.enable ∙ free);
 }
   where
@@ -33,11 +34,12 @@ started_free b latency n free is control = record {
     by true r n a h = absurd (let f : ⊥ = cc in f)
 
 -- and with it
-pub started_enabled : (new old : Netlist) (latency : ℕ) (en begun n : Net) → new.enable ≡ true → en ≡ enable_net → Includes new old → Starts old latency begun → IsControl old (OfNet begun) → IsGate new old (Binary And (atom.Net en) (atom.Net begun)) n → IsStarted new latency n
-started_enabled new old latency en begun n has en_is grows is control g = record {
-  control = g.made_of (is_control new.enable)
-      (All-cons (IsMadeOf new (is_control new.enable)) (OfNet en) (OfNet begun ∷ []) (subst (λ (e : Bool). IsMadeOf new (is_control e) (OfNet en)) (sym has) (control_own new true en (1, omega arith, sym en_is)))
-      (All-cons (IsMadeOf new (is_control new.enable)) (OfNet begun) [] (index_control_more new old begun grows control) (All-nil (IsMadeOf new (is_control new.enable)))));
+pub started_enabled : (new old : Netlist) (latency : ℕ) (en begun n : Net) → new.enable ≡ true → en ≡ enable_net → Includes new old → Starts old latency begun → IsWithin old (is_control old.enable) start_levels (OfNet begun) → IsGate new old (Binary And (atom.Net en) (atom.Net begun)) n → IsStarted new latency n
+started_enabled new old latency en begun n has en_is grows is depth g = record {
+  depth = within_deeper (let l : 1 + start_levels ≤ valid_levels = omega arith in l)
+      (g.within (is_control new.enable) start_levels
+      (All-cons (IsWithin new (is_control new.enable) start_levels) (OfNet en) (OfNet begun ∷ []) (subst (λ (x : Net). IsWithin new (is_control new.enable) start_levels (OfNet x)) (sym en_is) (subst (λ (e : Bool). IsWithin new (is_control e) start_levels (OfNet enable_net)) (sym has) (by_itself refl)))
+      (All-cons (IsWithin new (is_control new.enable) start_levels) (OfNet begun) [] (index_within_more new old start_levels begun grows depth) (All-nil (IsWithin new (is_control new.enable) start_levels)))));
   started = λ m from before c s clock since.
       let whole : m.enable ≡ true = clock.whole.includes.enable ∙ has in
       let given : net_value s en ≡ bit c.enable = ap (net_value s) en_is ∙ enable_shown m from before c s clock.at whole in

@@ -10,7 +10,9 @@ use Rattle.wiring.specs.Clock.{bit}
 use Rattle.wiring.specs.History.{was_reset}
 use Rattle.net_build.specs.Draft.{IsNet, IsDraft, UpdatedBut, flat, with_outputs}
 use Rattle.net_build.specs.Runs.{IsWhole, NeverStops, StillBut, RunsOn, InEachRun}
-use Rattle.net_build.specs.Control.{IsControl, IsControlled, FedOnly}
+use Rattle.net_build.specs.Control.{is_control, IsControlled, FedOnly}
+use Rattle.net_build.specs.Counters.{start_levels}
+use Rattle.net_build.specs.Depth.{IsWithin}
 use Rattle.net_build.specs.Registers.{register_bits}
 use Rattle.edge_select.specs.declared.frame_tests.FrameTests.{FrameTests}
 use Rattle.edge_select.specs.FrameTests.{AddsTests}
@@ -18,9 +20,13 @@ use Rattle.buffer_plan.specs.Plans.{Plan, latency_of}
 use Rattle.circuit.specs.Behaviour.{net_of, is_valid}
 use Rattle.circuit.specs.Registers.{latencies, latency_bits}
 
--- Since a reset the net is 0 in each reset clock, each held clock and each counted clock below the latency, and 1 in each later one. It is made of rst, en and registers.
+-- the most operators on a path to a valid, from rst, en and registers: one more than to whether clocks were counted, with en
+abbrev pub valid_levels : ℕ
+valid_levels = start_levels + 1
+
+-- Since a reset the net is 0 in each reset clock, each held clock and each counted clock below the latency, and 1 in each later one. It has few operators on a path from rst, en and registers.
 pub record IsStarted (b : Netlist) (latency : ℕ) (net : Net) : Type 0 where
-  pub control : IsControl b (OfNet net)
+  pub depth : IsWithin b (is_control b.enable) valid_levels (OfNet net)
   pub started : InEachRun b (λ m before c s. IsTrue (was_reset (c ∷ before)) → net_value s net ≡ bit (is_valid m latency before c))
 
 -- For each of the first n outputs its valid and its dout.

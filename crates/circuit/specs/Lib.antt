@@ -14,6 +14,7 @@ pub mod Nets
 pub mod Modules
 pub mod Registers
 pub mod Ends
+pub mod Paths
 pub mod Driven
 pub mod Growing
 pub mod Readers

@@ -15,6 +15,7 @@ use Rattle.circuit.specs.Forms.{Form, HasProperty, shapes_of}
 use Rattle.circuit.specs.Images.{AreBuiltWith, ports_of}
 use Rattle.circuit.specs.Modules.{IsModuleOf}
 use Rattle.circuit.specs.Nets.{AreComputed, IsApart}
+use Rattle.circuit.specs.Paths.{HasClockPaths}
 use Rattle.circuit.specs.Registers.{CountsRegisters, HasRegisters}
 
 -- A module with the ports of a program, and nothing else.
@@ -61,5 +62,7 @@ pub record IsBuiltBy (p : Program) (plan : Plan) (form : Form) (enable : Bool) (
   pub property : HasProperty r.module.netlist form.property
   -- bodies with an age begin at arrays and registers
   pub apart : IsApart r.module.netlist p plan form r.nets.items
+  -- one number bounds all its clock paths
+  pub paths : HasClockPaths r.module.netlist p plan form
   -- its registers are counted, and no other is there
   pub registers : HasRegisters r.module.netlist p plan form.long

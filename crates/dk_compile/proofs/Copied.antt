@@ -1,7 +1,6 @@
 -- The copies that a din reaches have at most the bits of one word of each long array.
-use Rattle.std.proofs.Common.{◌≡◌, ◌≢◌, ◌⊎◌, ℕ, zero, suc, ◌+◌, ◌<◌, ◌≤◌, Bool, true, false, List, [], ◌∷◌, length, map, set, filter, cond, nat_le, Contains, refl, sym, ap, subst, ◌∙◌, inl, inr, arith, Some}
+use Rattle.std.proofs.Common.{◌≡◌, ◌≢◌, ℕ, zero, suc, ◌+◌, ◌<◌, ◌≤◌, Bool, true, false, List, [], ◌∷◌, length, map, set, filter, cond, nat_le, Contains, refl, sym, ap, ◌∙◌, arith, Some}
 use Rattle.std.specs.Prelude.{IsTrue, if◌then◌else◌, slice_index, slice_index_or}
-use Rattle.std.proofs.lemmas.Bool.{cases_eq}
 use Rattle.wiring.specs.declared.netlist.Shape.{Shape}
 use Rattle.wiring.specs.Netlist.{Netlist}
 use Rattle.wiring.specs.BufferBits.{chosen_bits}

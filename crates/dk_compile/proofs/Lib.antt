@@ -22,6 +22,7 @@ pub mod Printed
 pub mod Circuits
 pub mod Same
 mod Deep
+mod Clocked
 pub mod Packing
 pub mod Widened
 pub mod Narrowed

@@ -47,6 +47,7 @@ use Rattle.circuit.specs.Driven.{Drives, input_widths, driven}
 use Rattle.circuit.proofs.Driven.{zeros_fit, given_fits, fed_fit}
 use Rattle.dk_compile.specs.Circuits.{IsCircuitOf, form_with}
 use Rattle.dk_compile.proofs.Deep.{packed_within}
+use Rattle.dk_compile.proofs.Clocked.{paths_alike}
 use Rattle.dk_compile.specs.Packed.{ShowsImage, BehavesAs, IsPackedCircuitOf, ahead_bits}
 
 -- a net of the circuit has its value in the module too
@@ -187,6 +188,7 @@ packed_circuit p plan enable block m old slots nets reads order program rules or
   once = packing.once (λ x low. let one = circuit.once x low in record { read = ap length one.read; put = ap length one.put });
   registers = packing.packed.regs;
   depth = λ base wide nets_in arrays_in n net is. packed_within m old slots packing.packed base wide nets_in arrays_in n net is;
+  paths = paths_alike m old slots packing.packed rules circuit.whole.rules p plan (form_with block circuit.splits) circuit.paths;
   bits = λ k is. within_ahead plan block old m.arrays circuit.copies k circuit.bits circuit.copied.widths circuit.none words ((packing.bits k).1 is);
   none = none;
   behaves = behaves_alike m old v sim whole circuit.whole p plan (form_with block circuit.splits).places circuit.copies nets reads (λ c d fits other same. contents_seen m old slots packing.filled c d fits other same) (packed_nets old slots) circuit.behaves circuit.nets_are.there circuit.reads_are;

@@ -11,6 +11,7 @@ use Rattle.circuit.specs.Forms.{Form, chain_form, block_form, shapes_of}
 use Rattle.circuit.specs.Divided.{AreChainsDivided}
 use Rattle.circuit.specs.Behaviour.{HasPorts, AreReadNets, Behaves}
 use Rattle.circuit.specs.Nets.{AreNetsOf, AreComputed, IsApart}
+use Rattle.circuit.specs.Paths.{HasClockPaths}
 use Rattle.circuit.specs.Modules.{CopyLongArrays, HasBits, ReadsDirectly}
 use Rattle.circuit.specs.Registers.{HasRegisters}
 use Rattle.circuit.specs.Driven.{Drives}
@@ -53,5 +54,7 @@ pub record IsCircuitOf (p : Program) (plan : Plan) (enable : Bool) (block : Opti
   pub computed : AreComputed m p plan (form_with block splits) nets reads
   -- at an age of at least 1 no path of gates passes through two images, and each has a bounded number of operators
   pub apart : IsApart m p plan (form_with block splits) nets
+  -- and one number bounds all its clock paths
+  pub paths : HasClockPaths m p plan (form_with block splits)
   -- the registers have the bits that the arrays, the latencies and the frame tests need, and no other
   pub registers : HasRegisters m p plan (is_long block)

@@ -24,6 +24,7 @@ use Rattle.circuit.specs.Runs.{IsRunning}
 use Rattle.circuit.specs.Rounds.{Rounds, AreRounds, Feeds, pixel_count, pixel_bits}
 use Rattle.circuit.specs.Taps.{Keeps}
 use Rattle.circuit.specs.Forms.{Places}
+use Rattle.circuit.specs.Paths.{HasClockPaths}
 use Rattle.circuit.specs.Behaviour.{HasPorts, is_valid, net_of, read_net}
 use Rattle.circuit.specs.Driven.{Drives}
 use Rattle.dk_compile.specs.Circuits.{IsCircuitOf, form_with}
@@ -80,6 +81,8 @@ pub record IsPackedCircuitOf (p : Program) (plan : Plan) (enable : Bool) (block 
   -- no register and no operator is added
   pub registers : m.regs ≡ unpacked.regs
   pub depth : KeepsDepth m unpacked slots
+  -- each number that bounds the levels of all images, and those of registers, bounds the clock paths of the module
+  pub paths : HasClockPaths m p plan (form_with block circuit.splits)
   -- its buffer bits are at most the plan's and one word more for each array that is read one clock ahead
   pub bits : (k : ℕ) → IsBufferBits m k → k ≤ bits_of plan + ahead_bits block m.arrays
   -- without a number the module is the circuit

@@ -20,20 +20,23 @@ use Rattle.wiring.specs.History.{was_reset, is_held, counted}
 use Rattle.net_build.specs.Includes.{Includes, InEach}
 use Rattle.net_build.specs.Draft.{IsNet}
 use Rattle.net_build.specs.Runs.{InEachRun}
-use Rattle.net_build.specs.Control.{IsMadeOf, is_control, is_control_but, IsControl, IsControlBut}
+use Rattle.net_build.specs.Control.{IsMadeOf, is_control_but, IsControlBut}
 use Rattle.net_build.specs.Logic.{AddsLogic, AreMadeOf, Computes, IsGate}
 use Rattle.net_build.specs.Counters.{AddsControl, Starts}
 use Rattle.net_build.proofs.Parts.{Includes-refl, Includes-trans}
 use Rattle.net_build.proofs.Runs.{clock_more, clock_before, reset_shown}
 use Rattle.net_build.proofs.Clocks.{bool_cases, never, was_off}
-use Rattle.net_build.proofs.Control.{control_own, control_but_more}
+use Rattle.net_build.proofs.Control.{control_but_more}
 use Rattle.net_build.proofs.Counting.{one_wide}
 use Rattle.net_build.proofs.Logic.{logic_on, given_source, number_source, net_source, choose_computes, binary_computes, computes_more, computes_from, computes_since, first_in, second_in, none_in, more_in}
 use Rattle.edge_select.specs.declared.counters.Counters.{Counters}
 use Rattle.edge_select.specs.declared.frame_tests.FrameTests.{FrameTests}
 use Rattle.edge_select.specs.FrameTests.{AreCounters, AreFrameTests, TakesTest, AddsRegisterOf, AddsBeside, IsStartTest}
 use Rattle.edge_select.proofs.Testing.{stepped, in_reset, in_held, in_other, now_is, held_long, going_long, reset_long}
-use Rattle.edge_select.proofs.Beside.{beside_logic, beside_on, beside_register, column_control, row_control, register_is_control}
+use Rattle.net_build.specs.Depth.{IsOver}
+use Rattle.edge_select.proofs.Depth.{register_within}
+use Rattle.edge_select.proofs.Levels.{constant_starts, here_starts}
+use Rattle.edge_select.proofs.Beside.{beside_logic, beside_on, beside_register, column_control, row_control}
 use Rattle.edge_select.proofs.Framed.{counters_more}
 
 yes_le : (a b : ℕ) → a ≤ b → nat_le a b ≡ true
@@ -161,8 +164,8 @@ module _ (new mid one old : Netlist) (size : Size) (k : Counters) (last across d
   abbrev IsOne : Type 0
   IsOne = Computes mid one [] 1 (λ s. bit true) test
 
-  pub start_adds : AddsLogic one old → AddsLogic mid one → IsHere → IsOne → AddsRegisterOf new mid (Some here) 0 test n → AddsBeside new old (Some k) (Some k)
-  start_adds first_logic logic at is adds =
+  pub start_adds : AddsLogic one old → AddsLogic mid one → IsHere → IsOne → IsOver one old 2 (k.pixel.column ∷ (k.pixel.row ∷ [])) here → IsOver mid one 0 [] test → AddsRegisterOf new mid (Some here) 0 test n → AddsBeside new old (Some k) (Some k)
+  start_adds first_logic logic at is here_depth test_depth adds =
       beside_on old mid new (Some k) (Some k) (Some k) (beside_logic mid old (Some k) (logic_on old one mid first_logic logic))
       (beside_register new mid (Some here) 0 test n k adds
       (λ copies plain. (
@@ -170,7 +173,8 @@ module _ (new mid one old : Netlist) (size : Size) (k : Counters) (last across d
         control_but_more mid one copies (OfNet here) logic.includes
             (subst (λ (e : Bool). IsMadeOf one (is_control_but e copies) (OfNet here)) (sym first_logic.includes.enable)
             (at.made_of (is_control_but old.enable copies) (two copies (column_control old counters.first k counters.next copies plain) (row_control old counters.first k counters.next copies plain)))),
-      )))
+      ))
+      (constant_starts mid one test test_depth) (here_starts mid one old k.pixel.column k.pixel.row here counters.first (suc counters.first) counters.next.column_at counters.next.row_at logic.includes here_depth))
     where
       none : (base : Holder → Bool) → AreMadeOf one base []
       none base x (i, l, e) = absurd (omega (arith, l))
@@ -188,7 +192,7 @@ module _ (new mid one old : Netlist) (size : Size) (k : Counters) (last across d
         width = adds.width;
         value = start_shown new size k (counters_more new old size k (Includes-trans new one old grows first_logic.includes) counters) last across down here test n adds.takes_test some tall above most across_is down_is
             (λ m s part settled. at.value m s (Includes-trans m new one part grows) settled) (λ m s part settled. is.value m s (Includes-trans m new mid part adds.includes) settled);
-        made = register_is_control new n adds.takes_test.number adds.takes_test.at;
+        depth = register_within new n adds.takes_test.number adds.takes_test.at;
       }
 
 -- and 0 in reset clocks
@@ -211,14 +215,6 @@ started_unless new old last register n grows is unless = record {
             (is.value m from before c s (clock_more new old m from before c s grows clock) (was_off c before off since))
       ];
 }
-
-pub unless_control : (new old : Netlist) (last : ℕ) (register n : Net) → Includes new old → IsStartTest old last register → Computes new old (reset_net ∷ (register ∷ [])) 1 (λ s. if net_value s reset_net == 1 then 0 else net_value s register) n → IsControl new (OfNet n)
-unless_control new old last register n grows is unless = subst (λ (e : Bool). IsMadeOf new (is_control e) (OfNet n)) (sym grows.enable) (unless.made_of (is_control old.enable) two)
-  where
-    two : AreMadeOf old (is_control old.enable) (reset_net ∷ (register ∷ []))
-    two x (zero, l, e) = subst (λ (w : Net). IsMadeOf old (is_control old.enable) (OfNet w)) e (control_own old old.enable reset_net (0, omega arith, refl))
-    two x (suc zero, l, e) = subst (λ (w : Net). IsMadeOf old (is_control old.enable) (OfNet w)) e is.made
-    two x (suc (suc i), l, e) = absurd (omega (arith, l))
 
 -- registers that are controlled by themselves
 pub beside_control : (new old : Netlist) (k : Option Counters) → AddsControl new old → AddsBeside new old k k

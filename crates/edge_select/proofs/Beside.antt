@@ -16,7 +16,8 @@ use Rattle.wiring.specs.Snapshot.{Snapshot, net_value}
 use Rattle.net_build.specs.Includes.{Includes, InEach, AtEachEdge}
 use Rattle.net_build.specs.Draft.{IsNet, UpdatedBut, number, with_reg, with_update}
 use Rattle.net_build.specs.Runs.{NeverStops, IsStill, StillBut}
-use Rattle.net_build.specs.Control.{IsMadeOf, by_itself, is_control, is_control_but, IsControl, IsControlBut, IsControlled, AddsNoReads}
+use Rattle.net_build.specs.Control.{IsMadeOf, by_itself, is_control_but, IsControlBut, IsControlled, AddsNoReads}
+use Rattle.net_build.specs.Depth.{IsWithin, is_start, control_levels}
 use Rattle.net_build.specs.Logic.{AddsLogic, AreMadeOf, Computes, IsGate}
 use Rattle.net_build.specs.Counters.{control_nets, taken}
 use Rattle.net_build.proofs.Parts.{Includes-refl, Includes-trans}
@@ -31,7 +32,7 @@ use Rattle.edge_select.specs.declared.counters.Counters.{Counters}
 use Rattle.edge_select.specs.Logic.{IsBit}
 use Rattle.edge_select.specs.Pixels.{AddsCounters}
 use Rattle.edge_select.specs.Counters.{TakesNext}
-use Rattle.edge_select.specs.FrameTests.{takes, sources, TakesTest, AddsRegisterOf, ArePlainly, AddsBeside}
+use Rattle.edge_select.specs.FrameTests.{band_levels, takes, sources, TakesTest, AddsRegisterOf, ArePlainly, AddsBeside}
 use Rattle.edge_select.proofs.Testing.{test_still}
 
 -- the test where `load` is 1, and else what the register has
@@ -155,9 +156,9 @@ module _ (b0 b1 b2 b3 b4 : Netlist) (load : Option Net) (first : ℕ) (test regi
       from_sources (Some x) own of n (suc (suc (suc i)), l, e) = absurd (omega (arith, l))
 
   pub register_adds : IsNet b1 register → net_width b1 register ≡ 1 → AtEachEdge b4 (λ s t. slice_get t.regs (number register) ≡ Some (net_value s value)) → (NeverStops b0 → NeverStops b4) →
-      ((copies : List ℕ) → IsControlled b0 copies → IsControlBut b4 copies (OfNet value) → IsControlled b4 copies) → AddsRegisterOf b4 b0 load first test register
+      ((copies : List ℕ) → IsControlled b0 copies → IsControlBut b4 copies (OfNet value) → IsWithin b4 is_start (control_levels b4.enable) (OfNet value) → IsControlled b4 copies) → (IsWithin b0 is_start band_levels (OfNet test) → IfSome load (λ l. IsWithin b0 is_start band_levels (OfNet l)) → IsWithin b4 is_start (control_levels b4.enable) (OfNet value)) → AddsRegisterOf b4 b0 load first test register
   unfolding takes_here
-  register_adds net width edge stops control = record {
+  register_adds net width edge stops control short = record {
     includes = f40;
     net = net_more b4 b1 f41 register net;
     width = width_more b4 b1 f41 register net.declared ∙ width;
@@ -168,7 +169,7 @@ module _ (b0 b1 b2 b3 b4 : Netlist) (load : Option Net) (first : ℕ) (test regi
     updated = all_updated;
     still = all_still (test_still b4 load first test register (takes_here edge));
     stops = stops;
-    control = λ copies is of_test of_load. control copies is (value_control copies is of_test of_load);
+    control = λ copies is of_test of_load test_short load_short. control copies is (value_control copies is of_test of_load) (short test_short load_short);
   }
 
 -- the counters' registers are no copies
@@ -192,13 +193,6 @@ test_control new old copies x n bits worth grows is of = subst (λ (e : Bool). I
     from : AreMadeOf old (is_control_but old.enable copies) (x ∷ [])
     from y (zero, l, e) = subst (λ (z : Net). IsMadeOf old (is_control_but old.enable copies) (OfNet z)) e of
     from y (suc i, l, e) = absurd (omega (arith, l))
-
-pub register_is_control : (b : Netlist) (n : Net) (r : ℕ) → n ≡ Reg r → IsControl b (OfNet n)
-register_is_control b n r e = subst (λ (x : Net). IsControl b (OfNet x)) (sym e) (by_itself (always b.enable))
-  where
-    always : (e : Bool) → IsTrue (is_control e (OfNet (Reg r)))
-    always true = refl
-    always false = refl
 
 -- one after another
 pub beside_none : (b : Netlist) (k : Option Counters) → AddsBeside b b k k
@@ -235,15 +229,15 @@ beside_on a b c i j k f g = record {
 }
 
 pub beside_register : (new old : Netlist) (load : Option Net) (first : ℕ) (test register : Net) (k : Counters) → AddsRegisterOf new old load first test register →
-    ((copies : List ℕ) → ArePlainly copies k → IsControlBut old copies (OfNet test) × IfSome load (λ l. IsControlBut old copies (OfNet l))) → AddsBeside new old (Some k) (Some k)
-beside_register new old load first test register k is of = record {
+    ((copies : List ℕ) → ArePlainly copies k → IsControlBut old copies (OfNet test) × IfSome load (λ l. IsControlBut old copies (OfNet l))) → IsWithin old is_start band_levels (OfNet test) → IfSome load (λ l. IsWithin old is_start band_levels (OfNet l)) → AddsBeside new old (Some k) (Some k)
+beside_register new old load first test register k is of test_short load_short = record {
   includes = is.includes;
   arrays = is.arrays;
   reads = is.reads;
   updated = is.updated;
   still = is.still;
   stops = is.stops;
-  control = λ copies h. record { controlled = (let p = of copies h.apart in is.control copies h.controlled p.0 p.1); apart = h.apart };
+  control = λ copies h. record { controlled = (let p = of copies h.apart in is.control copies h.controlled p.0 p.1 test_short load_short); apart = h.apart };
 }
 
 -- counters that are added are none of the copies that an older netlist has

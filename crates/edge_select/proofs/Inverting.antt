@@ -67,6 +67,10 @@ outside_is new mid old x inner n side band e grows is of =
     one base p y (zero, l, q) = subst (λ (z : Net). IsMadeOf mid base (OfNet z)) q p
     one base p y (suc i, l, q) = absurd (omega (arith, l))
 
+pub is_inside : (t : Bool) → not t ≡ true → t ≡ false
+is_inside true h = cc
+is_inside false h = refl
+
 pub is_outside : (t : Bool) → not t ≡ false → t ≡ true
 is_outside true h = refl
 is_outside false h = cc

@@ -16,6 +16,7 @@ pub mod Inverting
 pub mod Made
 pub mod Beginning
 pub mod Depth
+pub mod Levels
 pub mod Differing
 pub mod Bits
 pub mod Everywhere

@@ -13,6 +13,7 @@ use Rattle.net_build.specs.Includes.{Includes, AtEachEdge}
 use Rattle.net_build.specs.Draft.{IsNet, IsFree, UpdatedBut, with_reg}
 use Rattle.net_build.specs.Runs.{NeverStops, StillBut}
 use Rattle.net_build.specs.Control.{IsControlled}
+use Rattle.net_build.specs.Depth.{IsOver}
 use Rattle.net_build.specs.Logic.{Computes}
 use Rattle.net_build.specs.Counters.{after, control_nets, taken}
 use Rattle.edge_select.specs.declared.pixel.Pixel.{Pixel}
@@ -39,10 +40,12 @@ lead_in area delay = (area - delay % area) % area
 abbrev pub pixel_nets : Bool → Pixel → List Net
 pixel_nets enable p = control_nets enable ++ p.column ∷ (p.row ∷ [])
 
--- these nets are what the pixel's registers take: the place of a first pixel, or that of the pixel that follows
+-- These nets are what the pixel's registers take: the place of a first pixel, or that of the pixel that follows. They are five operators after the pixel's nets.
 pub record Advances (new old : Netlist) (p : Pixel) (first : ℕ) (column_net row_net : Net) : Type 0 where
   pub across : Computes new old (pixel_nets old.enable p) (bit_count (p.size.width - 1)) (λ s. taken old.enable (column (size_of p.size) first) (net_value s p.column) (next_column p s) s) column_net
   pub down : Computes new old (pixel_nets old.enable p) (bit_count (p.size.height - 1)) (λ s. taken old.enable (row (size_of p.size) first) (net_value s p.row) (next_row p s) s) row_net
+  pub across_depth : IsOver new old 5 (pixel_nets old.enable p) column_net
+  pub down_depth : IsOver new old 5 (pixel_nets old.enable p) row_net
 
 -- At each clock edge the registers, which have this number and the next, take the nets `next`. These are made only of rst, en and both registers.
 pub record TakesNext (b : Netlist) (first : ℕ) (k : Counters) : Type 0 where
@@ -74,6 +77,10 @@ pub record AreNext (new old : Netlist) (p : Pixel) (v : Values) : Type 0 where
   pub column : Computes new old (p.column ∷ (p.row ∷ [])) (bit_count (p.size.width - 1)) (next_column p) v.column
   -- its row, of the bits of a row
   pub row : Computes new old (p.column ∷ (p.row ∷ [])) (bit_count (p.size.height - 1)) (next_row p) v.row
+  -- the column is two operators after the pixel's nets
+  pub column_depth : IsOver new old 2 (p.column ∷ (p.row ∷ [])) v.column
+  -- the row is three
+  pub row_depth : IsOver new old 3 (p.column ∷ (p.row ∷ [])) v.row
 
 -- A netlist goes on from another, as a register is added that no clock takes yet.
 pub record GoesOn (new old : Netlist) : Type 0 where

@@ -15,7 +15,7 @@ use Rattle.net_build.specs.Includes.{Includes, InEach, AtEachEdge}
 use Rattle.net_build.specs.Draft.{IsNet, UpdatedBut}
 use Rattle.net_build.specs.Runs.{InEachRun, NeverStops, StillBut}
 use Rattle.net_build.specs.Control.{is_control, IsControl, IsControlBut, IsControlled, AddsNoReads}
-use Rattle.net_build.specs.Depth.{IsWithin}
+use Rattle.net_build.specs.Depth.{IsWithin, is_start}
 use Rattle.net_build.specs.Logic.{Computes}
 use Rattle.net_build.specs.Counters.{taken}
 use Rattle.net_build.specs.Registers.{register_bits, count_bits}
@@ -62,6 +62,10 @@ pub record TakesTest (b : Netlist) (load : Option Net) (first : ℕ) (test regis
   pub edge : AtEachEdge b (λ s next. slice_get next.regs number ≡ Some (net_value s value))
   pub value_is : InEach b (λ m s. net_value s value ≡ taken b.enable first (net_value s register) (takes load test register s) s)
 
+-- the most operators on a path to a test of a column or a row, from the counters: two tests, of the first and the last, both, and their opposite
+abbrev pub band_levels : ℕ
+band_levels = 4
+
 -- A register of one bit is added. At the edge of a reset clock it takes `first`, at that of a held clock it keeps its contents, and at each other edge it takes the test where `load` is 1, or always. Besides it only wires are added, which read no array.
 pub record AddsRegisterOf (new old : Netlist) (load : Option Net) (first : ℕ) (test register : Net) : Type 0 where
   pub includes : Includes new old
@@ -74,7 +78,7 @@ pub record AddsRegisterOf (new old : Netlist) (load : Option Net) (first : ℕ) 
   pub updated : (free : List Holder) → UpdatedBut old free → UpdatedBut new free
   pub still : (copies : List ℕ) (free : List Holder) → StillBut old copies free → StillBut new copies free
   pub stops : NeverStops old → NeverStops new
-  pub control : (copies : List ℕ) → IsControlled old copies → IsControlBut old copies (OfNet test) → IfSome load (λ l. IsControlBut old copies (OfNet l)) → IsControlled new copies
+  pub control : (copies : List ℕ) → IsControlled old copies → IsControlBut old copies (OfNet test) → IfSome load (λ l. IsControlBut old copies (OfNet l)) → IsWithin old is_start band_levels (OfNet test) → IfSome load (λ l. IsWithin old is_start band_levels (OfNet l)) → IsControlled new copies
 
 -- one pair of counters, which follows the pixels without a delay, and the nets that it takes
 pub record AreCounters (b : Netlist) (size : Size) (k : Counters) : Type 0 where
@@ -98,12 +102,12 @@ pub record IsRowTest (b : Netlist) (size : Size) (t : Test) : Type 0 where
   pub value : InEachRun b (λ m before c s. IsTrue (was_reset before) → (k : ℕ) → k + t.start ≡ length (counted m before) → net_value s t.net ≡ bit (in_band size.height t.band (row size k)))
   pub register : IsWithin b (is_control b.enable) 0 (OfNet t.net)
 
--- In each clock after a reset clock, held ones included, the register is 1 where at least `last` clocks were counted since the reset, and else 0.
+-- In each clock after a reset clock, held ones included, the register is 1 where at least `last` clocks were counted since the reset, and else 0. No path of assigns to it has an operator.
 pub record IsStartTest (b : Netlist) (last : ℕ) (register : Net) : Type 0 where
   pub there : IsNet b register
   pub width : net_width b register ≡ 1
   pub value : InEachRun b (λ m before c s. IsTrue (was_reset before) → net_value s register ≡ bit (nat_le last (length (counted m before))))
-  pub made : IsControl b (OfNet register)
+  pub depth : IsWithin b (is_control b.enable) 0 (OfNet register)
 
 -- Some coordinate of the side is in the band, and some is not. The band is written as its interval, without the side's last coordinate: no two that are written differently have the same coordinates, or the opposite ones.
 pub record Divides (side : ℕ) (b : Band) : Type 0 where

@@ -7,8 +7,8 @@ use Rattle.frame_paths.specs.Moves.{IsIn}
 use Rattle.wiring.specs.declared.netlist.Net.{Net}
 use Rattle.wiring.specs.declared.netlist.Holder.TheVariants.{OfNet}
 use Rattle.wiring.specs.Netlist.{Netlist, net_width}
-use Rattle.net_build.specs.Control.{is_control, IsControl}
-use Rattle.net_build.specs.Counters.{Starts}
+use Rattle.net_build.specs.Control.{is_control}
+use Rattle.net_build.specs.Counters.{Starts, start_levels}
 use Rattle.net_build.specs.Depth.{IsWithin}
 use Rattle.net_build.specs.Draft.{IsNet}
 use Rattle.net_build.specs.Registers.{register_bits}
@@ -150,5 +150,5 @@ pub record MakesStart (new old : Netlist) (size : Size) (k : Option Counters) (l
   pub width : net_width new n ≡ 1
   -- it is whether they were counted
   pub starts : Starts new last n
-  -- it is made of rst, en and registers
-  pub control : IsControl new (OfNet n)
+  -- it has few operators on a path from rst, en and registers
+  pub depth : IsWithin new (is_control new.enable) start_levels (OfNet n)

@@ -7,6 +7,7 @@ ghost use Rattle.wiring.specs.Clock.{bit};
 ghost use Rattle.net_build.specs.Counters.{after};
 ghost use Rattle.frame_paths.specs.Moves.{IsInterval};
 ghost use Rattle.edge_select.specs.Bands.{IsBand, IsMoved, in_interval, in_band};
+ghost use Rattle.edge_select.specs.FrameTests.{band_levels};
 ghost use Rattle.edge_select.specs.Logic.{AreCompared, HasOneBit, IsCoordinate, WiresFrom, WiresTest};
 
 use crate::frame_conditions::{test_net, within};
@@ -120,7 +121,7 @@ pub fn first_bit(band: Band) -> u64
 // The test that a coordinate is this one.
 pub fn equal_to(b: &mut Builder, x: Net, bits: u8, value: u32) -> Result<Net, OutOfMemory>
     requires { AreCompared b.old x bits value }
-    ensures { WiresTest b.new b.old result (x ∷ []) (λ s. net_value s x == value) }
+    ensures { WiresTest b.new b.old result 1 (x ∷ []) (λ s. net_value s x == value) }
 {
     let same = number(bits, u64::from(value));
     let net = gate(b, Right::Binary(Operator::Equal, Atom::Net(x), same))?;
@@ -164,7 +165,7 @@ fn negated(b: &mut Builder, test: Net) -> Result<Net, OutOfMemory>
 fn interval_test(b: &mut Builder, x: Net, side: u32, band: Band) -> Result<Net, OutOfMemory>
     requires coordinate { IsCoordinate b.old side x }
     requires band { IsBand side band }
-    ensures { WiresTest b.new b.old result (x ∷ [])
+    ensures { WiresTest b.new b.old result 3 (x ∷ [])
         (λ s. in_interval side band.first band.last (net_value s x)) }
 {
     if band.first == band.last {
@@ -184,7 +185,8 @@ fn interval_test(b: &mut Builder, x: Net, side: u32, band: Band) -> Result<Net, 
 pub fn band_test(b: &mut Builder, x: Net, side: u32, band: Band) -> Result<Net, OutOfMemory>
     requires coordinate { IsCoordinate b.old side x }
     requires band { IsBand side band }
-    ensures { WiresTest b.new b.old result (x ∷ []) (λ s. in_band side band (net_value s x)) }
+    ensures { WiresTest b.new b.old result band_levels (x ∷ [])
+        (λ s. in_band side band (net_value s x)) }
 {
     let net = interval_test(b, x, side, band)?;
     if !band.outside {

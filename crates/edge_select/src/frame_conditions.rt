@@ -10,7 +10,8 @@ ghost use Rattle.edge_select.specs.Steps.{LeadBy, LeadOn};
 ghost use Rattle.frame_paths.specs.Moves.{IsInterval};
 ghost use Rattle.edge_select.specs.Passes.{IsRectangle, PassesOn, is_in_rectangle};
 ghost use Rattle.net_build.specs.Depth.{IsOver};
-ghost use Rattle.edge_select.specs.Logic.{AreCompared, HoldsSide, IsCoordinate, Tests, IsBit, IsBoth, IsTestNet, Wires, WiresFrom, WiresOver, WiresTest, is_up_to, is_from, is_within};
+ghost use Rattle.net_build.specs.Logic.{Computes};
+ghost use Rattle.edge_select.specs.Logic.{AreCompared, HoldsSide, IsCoordinate, WiresSome, IsBit, IsBoth, IsTestNet, Wires, WiresFrom, WiresOver, WiresTest, is_up_to, is_from, is_within};
 ghost use Rattle.edge_select.specs.Pixels.{HasPixel, IsTest};
 
 use crate::paths::{Rectangle, leading_pixels, passing_pixels};
@@ -25,7 +26,7 @@ use wiring::{Atom, Net, Operator, Right};
 // The test that a coordinate is not this one. Equality has no carry, so such a test is faster than an order.
 fn apart_from(b: &mut Builder, x: Net, bits: u8, value: u32) -> Result<Net, OutOfMemory>
     requires { AreCompared b.old x bits value }
-    ensures { WiresTest b.new b.old result (x ∷ []) (λ s. not (net_value s x == value)) }
+    ensures { WiresTest b.new b.old result 2 (x ∷ []) (λ s. not (net_value s x == value)) }
 {
     let same = gate(
         b,
@@ -52,8 +53,7 @@ fn at_least(
 ) -> Result<Option<Net>, OutOfMemory>
     requires x { HoldsSide b.old side bits x }
     requires first { first ≤ 2 ^ bits }
-    ensures { Wires b.new b.old result
-        (Tests b.new b.old (x ∷ []) (λ s. is_from side first (net_value s x))) }
+    ensures { WiresSome b.new b.old result 2 (x ∷ []) (λ s. is_from side first (net_value s x)) }
 {
     if first == 0 {
         return Ok(None);
@@ -82,8 +82,7 @@ fn at_most(
 ) -> Result<Option<Net>, OutOfMemory>
     requires x { HoldsSide b.old side bits x }
     requires last { last < side }
-    ensures { Wires b.new b.old result
-        (Tests b.new b.old (x ∷ []) (λ s. is_up_to side last (net_value s x))) }
+    ensures { WiresSome b.new b.old result 2 (x ∷ []) (λ s. is_up_to side last (net_value s x)) }
 {
     let end = last + 1;
     if end >= side {
@@ -140,8 +139,8 @@ pub fn within(
 ) -> Result<Option<Net>, OutOfMemory>
     requires coordinate { IsCoordinate b.old side x }
     requires interval { IsInterval side interval }
-    ensures { Wires b.new b.old result (Tests b.new b.old (x ∷ [])
-        (λ s. is_within side interval.first interval.last (net_value s x))) }
+    ensures { WiresSome b.new b.old result 3 (x ∷ [])
+        (λ s. is_within side interval.first interval.last (net_value s x)) }
 {
     let bits = width_for(side);
     let low = at_least(b, x, bits, interval.first, side)?;
@@ -176,8 +175,9 @@ pub fn test_net(b: &mut Builder, test: Option<Net>) -> Result<Net, OutOfMemory>
 fn rectangle_test(b: &mut Builder, pixel: &Pixel, rectangle: Rectangle) -> Result<Net, OutOfMemory>
     requires pixel { HasPixel b.old pixel.now }
     requires rectangle { IsRectangle (size_of pixel.now.size) rectangle }
-    ensures { WiresTest b.new b.old result (pixel.now.column ∷ (pixel.now.row ∷ []))
-        (λ s. is_in_rectangle pixel.now rectangle s) }
+    ensures { Wires b.new b.old result (Computes b.new b.old
+        (pixel.now.column ∷ (pixel.now.row ∷ [])) 1
+        (λ s. bit (is_in_rectangle pixel.now rectangle s))) }
 {
     let across = within(b, pixel.column, pixel.size.width, rectangle.across)?;
     let down = within(b, pixel.row, pixel.size.height, rectangle.down)?;

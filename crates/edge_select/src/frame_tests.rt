@@ -1,15 +1,16 @@
 // Tests of the pixels of a module, for each delay: one pair of counters, and registers of one bit.
 
-ghost use Rattle.std.specs.Prelude.{◌≡◌, ◌<◌, ◌-◌, ◌==◌, true, IsTrue, Contains, IfOk, IfSome, IfNone, OnOk};
+ghost use Rattle.std.specs.Prelude.{[], ◌∷◌, ◌≡◌, ◌<◌, ◌-◌, ◌==◌, true, IsTrue, Contains, IfOk, IfSome, IfNone, OnOk};
 ghost use Rattle.dk_base.specs.FrameSizes.{size_of};
 ghost use Rattle.net_build.specs.Counters.{after};
+ghost use Rattle.net_build.specs.Depth.{IsOver};
 ghost use Rattle.frame_paths.specs.Moves.{IsInterval};
 ghost use Rattle.edge_select.specs.Steps.{LeadBy, LeadOn};
 ghost use Rattle.edge_select.specs.Bands.{is_new_row_in, is_next_in};
-ghost use Rattle.edge_select.specs.Logic.{Wires};
+ghost use Rattle.edge_select.specs.Logic.{WiresOver};
 ghost use Rattle.edge_select.specs.MadeTests.{AddsBit, AreNoTests, HasColumnTest, HasColumns, HasCounters, HasRowTest, HasRows, MakesAcross, MakesDown, MakesFrameTest, MakesStart};
 ghost use Rattle.edge_select.specs.Passes.{IsRectangle, Passes, PassesOn};
-ghost use Rattle.edge_select.specs.FrameTests.{AreCounters, IsColumnTest, IsRowTest, AreFrameTests, IsTested, IsTestOf, HasNone};
+ghost use Rattle.edge_select.specs.FrameTests.{band_levels, AreCounters, IsColumnTest, IsRowTest, AreFrameTests, IsTested, IsTestOf, HasNone};
 
 use crate::bands::{
     Band, band_test, before, equal_to, first_bit, interval_of, moved, one_before, same_band, turned,
@@ -48,8 +49,9 @@ pub struct FrameTests {
 // The test of the next column, by the present one. A register that takes it tests the column of its own clock.
 fn next_column_test(b: &mut Builder, k: &Counters, band: Band) -> Result<Net, OutOfMemory>
     requires { HasColumns b.old k.now band }
-    ensures { Wires b.new b.old result (IsTestOf b.new b.old k.now.pixel.size.width
-        (is_next_in k.now.pixel.size.width band) k.now.pixel.column) }
+    ensures { WiresOver b.new b.old result (IsTestOf b.new b.old k.now.pixel.size.width
+        (is_next_in k.now.pixel.size.width band) k.now.pixel.column)
+        (IsOver b.new b.old band_levels (k.now.pixel.column ∷ [])) }
 {
     let earlier = before(band, k.pixel.size.width);
     let net = band_test(b, k.pixel.column, k.pixel.size.width, earlier)?;
@@ -60,8 +62,9 @@ fn next_column_test(b: &mut Builder, k: &Counters, band: Band) -> Result<Net, Ou
 fn starts(b: &mut Builder, k: &Counters, start: u32) -> Result<Net, OutOfMemory>
     requires counters { AreCounters b.old (size_of k.now.pixel.size) k.now }
     requires start { start < k.now.pixel.size.width }
-    ensures { Wires b.new b.old result (IsTestOf b.new b.old k.now.pixel.size.width
-        (λ x. after true (k.now.pixel.size.width - 1) x == start) k.now.pixel.column) }
+    ensures { WiresOver b.new b.old result (IsTestOf b.new b.old k.now.pixel.size.width
+        (λ x. after true (k.now.pixel.size.width - 1) x == start) k.now.pixel.column)
+        (IsOver b.new b.old 1 (k.now.pixel.column ∷ [])) }
 {
     let bits = width_for(k.pixel.size.width);
     let earlier = one_before(start, k.pixel.size.width);
@@ -72,8 +75,9 @@ fn starts(b: &mut Builder, k: &Counters, start: u32) -> Result<Net, OutOfMemory>
 // The test of the next row where the next column is `start`, by the present row. The row changes where the next column is the first.
 fn next_row_test(b: &mut Builder, k: &Counters, start: u32, band: Band) -> Result<Net, OutOfMemory>
     requires { HasRows b.old k.now start band }
-    ensures { Wires b.new b.old result (IsTestOf b.new b.old k.now.pixel.size.height
-        (is_new_row_in k.now.pixel.size.height start band) k.now.pixel.row) }
+    ensures { WiresOver b.new b.old result (IsTestOf b.new b.old k.now.pixel.size.height
+        (is_new_row_in k.now.pixel.size.height start band) k.now.pixel.row)
+        (IsOver b.new b.old band_levels (k.now.pixel.row ∷ [])) }
 {
     if start == 0 {
         let earlier = before(band, k.pixel.size.height);

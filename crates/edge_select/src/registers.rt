@@ -1,10 +1,10 @@
 // Registers of one bit that take tests.
 
-ghost use Rattle.std.specs.Prelude.{◌<◌, ◌^◌, [], ◌∷◌, ◌++◌, IfOk};
+ghost use Rattle.std.specs.Prelude.{◌+◌, ◌<◌, ◌^◌, [], ◌∷◌, ◌++◌, IfOk};
 ghost use Rattle.wiring.specs.Snapshot.{net_value};
-ghost use Rattle.net_build.specs.Logic.{Computes};
+ghost use Rattle.net_build.specs.Depth.{hold_levels};
 ghost use Rattle.net_build.specs.Counters.{control_nets, taken};
-ghost use Rattle.edge_select.specs.Logic.{AreLoaded, HasOneBit, IsBit, Wires};
+ghost use Rattle.edge_select.specs.Logic.{AreLoaded, HasOneBit, IsBit, WiresFrom};
 ghost use Rattle.edge_select.specs.FrameTests.{AddsRegisterOf, takes, sources};
 
 use dk_base::OutOfMemory;
@@ -19,8 +19,8 @@ fn choice_of(
     register: Net,
 ) -> Result<Net, OutOfMemory>
     requires { AreLoaded b.old load test register }
-    ensures { Wires b.new b.old result
-        (Computes b.new b.old (sources load test register) 1 (takes load test register)) }
+    ensures { WiresFrom b.new b.old result 1 (sources load test register) 1
+        (takes load test register) }
 {
     match load {
         None => Ok(test),
@@ -39,9 +39,9 @@ fn still_value(b: &mut Builder, register: Net, next: Net, first: u64) -> Result<
     requires register { HasOneBit b.old register }
     requires next { HasOneBit b.old next }
     requires first { first < 2 ^ 1 }
-    ensures { Wires b.new b.old result
-        (Computes b.new b.old (control_nets b.old.enable ++ register ∷ (next ∷ [])) 1
-        (λ s. taken b.old.enable first (net_value s register) (net_value s next) s)) }
+    ensures { WiresFrom b.new b.old result (1 + hold_levels b.old.enable)
+        (control_nets b.old.enable ++ register ∷ (next ∷ [])) 1
+        (λ s. taken b.old.enable first (net_value s register) (net_value s next) s) }
 {
     let value = register_value(b, register, next, 1, first)?;
     Ok(value)

@@ -5,9 +5,8 @@ ghost use Rattle.dk_base.specs.Frames.{area};
 ghost use Rattle.dk_base.specs.FrameSizes.{size_of};
 ghost use Rattle.wiring.specs.Netlist.{reset_net};
 ghost use Rattle.wiring.specs.Snapshot.{net_value};
-ghost use Rattle.net_build.specs.Logic.{Computes};
 ghost use Rattle.edge_select.specs.Counters.{IsPlaceOf};
-ghost use Rattle.edge_select.specs.Logic.{HasOneBit, Wires, WiresTest};
+ghost use Rattle.edge_select.specs.Logic.{HasOneBit, WiresFrom, WiresTest};
 ghost use Rattle.edge_select.specs.MadeTests.{AddsBit, MakesStart};
 ghost use Rattle.edge_select.specs.Pixels.{HasSpot};
 ghost use Rattle.edge_select.specs.FrameTests.{AreCounters, IsStartTest};
@@ -51,7 +50,7 @@ fn last_spot(size: FrameSize, last: u64) -> Spot
 // The test that a pixel is this one.
 fn is_at(b: &mut Builder, pixel: &Pixel, spot: Spot) -> Result<Net, OutOfMemory>
     requires { HasSpot b.old pixel.now spot.column spot.row }
-    ensures { WiresTest b.new b.old result (pixel.now.column ∷ (pixel.now.row ∷ []))
+    ensures { WiresTest b.new b.old result 2 (pixel.now.column ∷ (pixel.now.row ∷ []))
         (λ s. net_value s pixel.now.column == spot.column
         && net_value s pixel.now.row == spot.row) }
 {
@@ -82,8 +81,8 @@ fn start_register(b: &mut Builder, k: &Counters, last: u64) -> Result<Net, OutOf
 // What a register of one bit has, and 0 in a reset clock.
 fn unless_reset(b: &mut Builder, register: Net) -> Result<Net, OutOfMemory>
     requires { HasOneBit b.old register }
-    ensures { Wires b.new b.old result (Computes b.new b.old (reset_net ∷ (register ∷ [])) 1
-        (λ s. if net_value s reset_net == 1 then 0 else net_value s register)) }
+    ensures { WiresFrom b.new b.old result 1 (reset_net ∷ (register ∷ [])) 1
+        (λ s. if net_value s reset_net == 1 then 0 else net_value s register) }
 {
     let reset = b.rst();
     let net = gate(

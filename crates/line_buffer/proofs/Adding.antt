@@ -13,6 +13,8 @@ use Rattle.std.proofs.lemmas.List.Elements.{All-nil, All-append, All-weaker, All
 use Rattle.net_build.specs.Runs.{StillBut}
 use Rattle.net_build.specs.Includes.{Includes}
 use Rattle.net_build.specs.Logic.{AddsLogic}
+use Rattle.net_build.specs.Depth.{SetsWithin}
+use Rattle.net_build.proofs.Control.{sets_more}
 use Rattle.net_build.proofs.Parts.{Includes-refl, Includes-trans, at_Begins}
 use Rattle.net_build.proofs.Grown.{length_begins}
 use Rattle.net_build.proofs.Reading.{reads_none, reads_joined, reads_weaker, none_reads}
@@ -96,6 +98,7 @@ module _ (c b a : Netlist) (after before : List Shape) (more copies : List ℕ) 
     only = only_joined;
     still = λ others free but. subst (λ (l : List ℕ). StillBut c l free) (append_assoc others copies more) (g.still (others ++ copies) free (f.still others free but));
     control = added_joined (TakesAdded c a all) c.updates b.updates a.updates g.includes.updates (added_weaker (TakesAdded c b more) (TakesAdded c a all) c.updates b.updates takes_late g.control) (added_weaker (TakesAdded b a copies) (TakesAdded c a all) b.updates a.updates takes_early f.control);
+    levels = added_joined (SetsWithin c) c.updates b.updates a.updates g.includes.updates g.levels (added_weaker (SetsWithin b) (SetsWithin c) b.updates a.updates (sets_more c b g.includes) f.levels);
     reads_inside = added_joined (ReadsInside c) c.assigns b.assigns a.assigns g.includes.assigns g.reads_inside (added_weaker (ReadsInside b) (ReadsInside c) b.assigns a.assigns (λ x. inside_more c b g.includes (right_accesses x.right)) f.reads_inside);
     puts_inside = added_joined (PutsInside c) c.updates b.updates a.updates g.includes.updates g.puts_inside (added_weaker (PutsInside b) (PutsInside c) b.updates a.updates (λ u. inside_more c b g.includes (update_accesses u)) f.puts_inside);
     reads = reads_joined c b a (is_new a) g.includes (reads_weaker c b (is_new b) (is_new a) wider g.reads) f.reads;
@@ -110,6 +113,7 @@ adds_none b = record {
   only = λ k u low at state. absurd (omega (arith, low, slice_get_within b.updates k u at));
   still = λ others free but. still_copies b others [] free but;
   control = added_same (TakesAdded b b []) b.updates b.updates refl;
+  levels = added_same (SetsWithin b) b.updates b.updates refl;
   reads_inside = added_same (ReadsInside b) b.assigns b.assigns refl;
   puts_inside = added_same (PutsInside b) b.updates b.updates refl;
   reads = reads_none b b (is_new b) refl;
@@ -124,6 +128,7 @@ adds_logic new old is = record {
   only = λ k u low at state. absurd (omega (arith, low, slice_get_within new.updates k u at, ap length is.wires.updates));
   still = λ others free but. still_copies new others [] free (still_wires new old others free is.includes is.wires but);
   control = added_same (TakesAdded new old []) new.updates old.updates is.wires.updates;
+  levels = added_same (SetsWithin new) new.updates old.updates is.wires.updates;
   reads_inside = none_inside new old is.reads;
   puts_inside = added_same (PutsInside new) new.updates old.updates is.wires.updates;
   reads = none_reads new old (is_new old) is.reads;

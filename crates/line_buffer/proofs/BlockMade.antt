@@ -22,13 +22,16 @@ use Rattle.wiring.proofs.Search.{at_push}
 use Rattle.net_build.specs.Includes.{Includes, InEach, AtEachEdge}
 use Rattle.net_build.specs.Draft.{IsDraft, IsFree, AddsWires, UpdatedBut, number, with_wire, with_array, with_reg, with_update}
 use Rattle.net_build.specs.Runs.{StaysBelow, StaysInside, IsStill, StillBut}
-use Rattle.net_build.specs.Control.{AddsReads, AddsNoReads}
+use Rattle.net_build.specs.Control.{is_control, AddsReads, AddsNoReads}
+use Rattle.net_build.specs.Depth.{IsWithin, IsOver, by_itself, is_start, control_levels, SetsWithin}
+use Rattle.net_build.proofs.Depth.{within_more, within_deeper, within_wire, within_net}
+use Rattle.net_build.proofs.Levels.{control_path, choice_within, starts_at, register_starts}
 use Rattle.net_build.specs.Indices.{put_indices}
 use Rattle.net_build.proofs.Indexed.{puts_behind}
 use Rattle.net_build.specs.Logic.{AddsLogic, Computes}
 use Rattle.net_build.specs.declared.counters.Indices.{Indices}
 use Rattle.net_build.specs.Counters.{control_nets, unless_held, loaded, IsLoaded, IsIndexNet, Cycles}
-use Rattle.net_build.proofs.Parts.{Includes-trans, at_Begins, InEach-more}
+use Rattle.net_build.proofs.Parts.{Includes-refl, Includes-trans, at_Begins, InEach-more}
 use Rattle.net_build.proofs.Grown.{net_more}
 use Rattle.net_build.proofs.Runs.{AtEachEdge-more, clock_more}
 use Rattle.net_build.proofs.Stops.{inside_below, below_more}
@@ -40,8 +43,9 @@ use Rattle.line_buffer.specs.Fills.{IsWordAt, IsUnlessHeld}
 use Rattle.line_buffer.specs.Lines.{AreIndices, IsBlockLine}
 use Rattle.line_buffer.specs.Buffers.{AddsBuffer, ReadsInside, PutsInside, is_new, TakesAdded, IsAdded}
 use Rattle.line_buffer.proofs.More.{added_as, added_last, added_weaker, added_joined, inside_more, none_inside, op_inside_in, le_is}
-use Rattle.line_buffer.proofs.Filling.{contains_more, index_control_more, right_more, unless_held_more, loaded_more}
-use Rattle.line_buffer.proofs.Turning.{register_control}
+use Rattle.line_buffer.proofs.Depth.{index_within_more}
+use Rattle.line_buffer.specs.Depths.{line_operators, ahead_operators}
+use Rattle.line_buffer.proofs.Filling.{contains_more, right_more, unless_held_more, loaded_more}
 use Rattle.line_buffer.specs.Indices.{AreReadAndPut}
 use Rattle.line_buffer.proofs.Indexed.{block_once}
 use Rattle.line_buffer.proofs.Blocking.{block_still, copy_still}
@@ -60,20 +64,20 @@ indices_more b a words at f is = record {
   next_net = net_more b a f at.next is.next_net;
   now_below = below_more b a words at.now f is.now_below;
   next_below = below_more b a words at.next f is.next_below;
-  now_control = index_control_more b a at.now f is.now_control;
-  next_control = index_control_more b a at.next f is.next_control;
+  now_control = index_within_more b a line_operators at.now f is.now_control;
+  next_control = index_within_more b a ahead_operators at.next f is.next_control;
 }
 
 -- those of a cycle
-pub made_indices : (b : Netlist) (register bits last words : ℕ) (at : Indices) → 0 < words → last ≡ words - 1 → IsIndexNet b register bits last at.now → IsIndexNet b register bits last at.next → Cycles b last at.now at.next → AreIndices b words at
-made_indices b register bits last words at some e now next cycles = record {
+pub made_indices : (b : Netlist) (register bits last words : ℕ) (at : Indices) → 0 < words → last ≡ words - 1 → IsIndexNet b register bits last at.now → IsIndexNet b register bits last at.next → Cycles b last at.now at.next → IsWithin b (is_control b.enable) line_operators (OfNet at.now) → IsWithin b (is_control b.enable) ahead_operators (OfNet at.next) → AreIndices b words at
+made_indices b register bits last words at some e now next cycles now_depth next_depth = record {
   cycles = subst (λ (n : ℕ). Cycles b n at.now at.next) e cycles;
   now_net = now.there;
   next_net = next.there;
   now_below = subst (λ (n : ℕ). StaysBelow b n at.now) all now.below;
   next_below = subst (λ (n : ℕ). StaysBelow b n at.next) all next.below;
-  now_control = register_control b register at.now now.made_of;
-  next_control = register_control b register at.next next.made_of;
+  now_control = now_depth;
+  next_control = next_depth;
 }
   where
     all : suc last ≡ words
@@ -290,8 +294,26 @@ module _ (b1 b2 b3 b4 b5 b6 b7 b8 : Netlist) (width words x : ℕ) (value copy a
       let r7 = reads_joined b7 b6 b1 new f76 (reads_none b7 b6 new (ap (λ (b : Netlist). b.assigns) set)) r6 in
       reads_joined b8 b7 b1 new f87 (reads_none b8 b7 new (ap (λ (b : Netlist). b.assigns) put)) r7
 
-  pub block_adds : AddsBuffer b8 b1 (shape ∷ []) (r ∷ [])
-  block_adds = record {
+  -- what the copy takes
+  abbrev IsTakenOver : Type 0
+  IsTakenOver = IsOver b5 b4 2 (control_nets b4.enable ++ copy ∷ (ahead ∷ [])) taken
+
+  ahead_within : IsWithin b4 is_start ahead_operators (OfNet ahead)
+  ahead_within =
+      let f41 : Includes b4 b1 = Includes-trans b4 b3 b1 f43 (Includes-trans b3 b2 b1 f32 f21) in
+      within_wire b4 ahead (Word x (atom.Net at.next)) is_start ahead_operators ahead_read
+      (All-cons (IsWithin b4 is_start ahead_operators) (OfArray x) (OfNet at.next ∷ []) (by_itself refl) (within_net b4 is_start ahead_operators at.next (within_more b4 b1 is_start f41 (control_path b1 ahead_operators ahead_operators at.next (omega arith) indices.next_control))))
+
+  taken_within : IsTakenOver → IsWithin b8 is_start (control_levels b8.enable) (OfNet taken)
+  taken_within over =
+      within_more b8 b5 is_start f85
+      (within_deeper (omega arith) (over is_start ahead_operators (choice_within b4 b4 is_start 0 ahead_operators copy ahead (omega arith) (Includes-refl b4) (starts_at b4 0) (register_starts b4 ahead_operators r copy copy_reg) ahead_within)))
+
+  levels_are : IsTakenOver → EachAdded (SetsWithin b8) b8.updates b1.updates
+  levels_are over = added_as (SetsWithin b8) ((b1.updates ++ u ∷ []) ++ w ∷ []) b8.updates b1.updates updates_are (two_added (SetsWithin b8) b1.updates u w (within_net b8 is_start (control_levels b8.enable) taken (taken_within over)) tt)
+
+  pub block_adds : IsTakenOver → AddsBuffer b8 b1 (shape ∷ []) (r ∷ [])
+  block_adds over = record {
     includes = f81;
     arrays = arrays_are;
     added = All-cons (IsAdded b8 b1) r [] (record { beyond = omega arith; there = omega (arith, ap length regs_are, length_push b1.regs width) }) (All-nil (IsAdded b8 b1));
@@ -299,6 +321,7 @@ module _ (b1 b2 b3 b4 b5 b6 b7 b8 : Netlist) (width words x : ℕ) (value copy a
     only = only_new;
     still = still_all;
     control = controlled;
+    levels = levels_are over;
     reads_inside = reads_in;
     puts_inside = puts_in;
     reads = reads_are;

@@ -8,22 +8,18 @@ use Rattle.wiring.specs.declared.right.Right.{Right}
 use Rattle.wiring.specs.declared.right.Right.TheVariants.{Choose, Word}
 use Rattle.wiring.specs.declared.netlist.Net.{Net}
 use Rattle.wiring.specs.declared.netlist.Net.TheVariants.{Reg}
-use Rattle.wiring.specs.declared.netlist.Holder.TheVariants.{OfNet}
 use Rattle.wiring.specs.declared.netlist.Update.TheVariants.{Set, Put}
 use Rattle.wiring.specs.Netlist.{Netlist, enable_net}
 use Rattle.net_build.specs.Includes.{Begins, Includes}
-use Rattle.net_build.specs.Control.{IsMadeOf, IsControl, is_control}
 use Rattle.net_build.specs.Counters.{IsLoaded}
-use Rattle.net_build.proofs.Control.{made_more}
+use Rattle.line_buffer.specs.Depths.{line_operators, ahead_operators}
 use Rattle.line_buffer.specs.Lines.{IsDelayLine, IsBlockLine}
 use Rattle.line_buffer.specs.Chains.{AreSegments}
 use Rattle.line_buffer.specs.Fills.{HasRight, IsWordAt, IsCopyOf, ShowsWord, by_read, by_copy, IsWordOf, IsUnlessHeld, Takes, IsFilled, AreFilled}
+use Rattle.line_buffer.proofs.Depth.{index_within_more}
 
 pub contains_more : {X : Type 0} (xs ys : List X) (x : X) → Begins xs ys → Contains xs x → Contains ys x
 contains_more xs ys x b c = subst (λ l. Contains l x) (sym b.1) (Contains-append_left xs b.0 x c)
-
-pub index_control_more : (b a : Netlist) (n : Net) → Includes b a → IsControl a (OfNet n) → IsControl b (OfNet n)
-index_control_more b a n f is = subst (λ (e : Bool). IsMadeOf b (is_control e) (OfNet n)) (sym f.enable) (made_more b a (is_control a.enable) f is)
 
 pub right_more : (b a : Netlist) (n : Net) (r : Right Net ℕ) → Includes b a → HasRight a n r → HasRight b n r
 right_more b a n r f is = contains_more a.assigns b.assigns (record { target = n; right = r }) f.assigns is
@@ -43,7 +39,7 @@ loaded_more b a now next n f is = record {
 pub copy_more : (b a : Netlist) (x r : ℕ) → Includes b a → IsCopyOf a x r → IsCopyOf b x r
 copy_more b a x r f is = record {
   next = is.next;
-  control = index_control_more b a is.next f is.control;
+  control = index_within_more b a ahead_operators is.next f is.control;
   ahead = is.ahead;
   read = right_more b a is.ahead (Word x (atom.Net is.next)) f is.read;
   taken = is.taken;
@@ -57,12 +53,12 @@ shown_more b a direct wider copies more x index word f wide among (by_read is_di
 shown_more b a direct wider copies more x index word f wide among (by_copy r c is) = by_copy r (among r c) (copy_more b a x r f is)
 
 pub word_more : (b a : Netlist) (direct wider : ℕ → Bool) (copies more : List ℕ) (x : ℕ) (word : Net) → Includes b a → (IsTrue (direct x) → IsTrue (wider x)) → ((r : ℕ) → Contains copies r → Contains more r) → IsWordOf a direct copies x word → IsWordOf b wider more x word
-word_more b a direct wider copies more x word f wide among is = record { index = is.index; control = index_control_more b a is.index f is.control; shown = shown_more b a direct wider copies more x is.index word f wide among is.shown }
+word_more b a direct wider copies more x word f wide among is = record { index = is.index; control = index_within_more b a line_operators is.index f is.control; shown = shown_more b a direct wider copies more x is.index word f wide among is.shown }
 
 pub takes_net_more : (b a : Netlist) (direct wider : ℕ → Bool) (copies more : List ℕ) (x : ℕ) (from : Net) → Includes b a → (IsTrue (direct x) → IsTrue (wider x)) → ((r : ℕ) → Contains copies r → Contains more r) → Takes a direct copies x from → Takes b wider more x from
 takes_net_more b a direct wider copies more x from f wide among is = record {
   index = is.index;
-  control = index_control_more b a is.index f is.control;
+  control = index_within_more b a line_operators is.index f is.control;
   word = is.word;
   shown = shown_more b a direct wider copies more x is.index is.word f wide among is.shown;
   stored = is.stored;

@@ -17,7 +17,7 @@ use Rattle.net_build.specs.Draft.{AddsWires, with_wire, with_array, with_update}
 use Rattle.net_build.specs.Runs.{StaysInside}
 use Rattle.net_build.specs.Control.{is_control, AddsReads}
 use Rattle.net_build.specs.Depth.{IsWithin, by_itself}
-use Rattle.net_build.proofs.Depth.{within_more, within_wider, within_made, within_wire}
+use Rattle.net_build.proofs.Depth.{within_more, within_wider, within_wire}
 use Rattle.net_build.proofs.Parts.{Includes-trans, at_Begins, InEach-more}
 use Rattle.net_build.proofs.Reading.{reads_word, reads_joined, none_reads}
 use Rattle.net_build.proofs.Updating.{wires_joined}
@@ -29,7 +29,8 @@ use Rattle.line_buffer.specs.Fills.{IsWordAt, IsUnlessHeld}
 use Rattle.line_buffer.specs.Depths.{line_operators}
 use Rattle.line_buffer.specs.Buffers.{AddsBuffer, ReadsInside, is_new, is_buffer}
 use Rattle.line_buffer.proofs.More.{added_weaker, added_joined, inside_more, none_inside, op_inside_in}
-use Rattle.line_buffer.proofs.Filling.{index_control_more, right_more, unless_held_more}
+use Rattle.line_buffer.proofs.Depth.{index_within_more}
+use Rattle.line_buffer.proofs.Filling.{right_more, unless_held_more}
 use Rattle.line_buffer.proofs.Adding.{adds_joined}
 use Rattle.line_buffer.proofs.More.{le_is}
 use Rattle.line_buffer.proofs.States.{adds_array}
@@ -77,7 +78,7 @@ module _ (b0 b1 b2 b3 b4 b5 : Netlist) (width words x : ℕ) (index value word s
     deep = refl;
     index = index;
     counter = index_more b5 b1 words index f51 counter;
-    control = index_control_more b5 b1 index f51 (within_made index_within);
+    control = index_within_more b5 b1 line_operators index f51 index_within;
     read = right_more b5 b3 word (Word x (atom.Net index)) f53 word_read;
     gives = InEach-more (λ m s. net_value s word ≡ word_value s x (net_value s index)) b5 b3 f53 word_is;
     stored = stored;

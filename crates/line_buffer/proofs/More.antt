@@ -26,7 +26,8 @@ use Rattle.net_build.specs.Includes.{Begins, Includes}
 use Rattle.net_build.specs.Draft.{IsDraft, with_wire}
 use Rattle.net_build.specs.Runs.{NeverStops, StaysInside}
 use Rattle.net_build.specs.Control.{is_control_but, TakesControl, IsControlled, AddsNoReads, IsMadeOf}
-use Rattle.net_build.proofs.Control.{made_more, made_wider, is_none, copy_cases, copies_more, takes_more, control_beside}
+use Rattle.net_build.specs.Depth.{SetsWithin}
+use Rattle.net_build.proofs.Control.{sets_more, made_more, made_wider, is_none, copy_cases, copies_more, takes_more, control_beside}
 use Rattle.net_build.proofs.Drafts.{append_behind}
 use Rattle.net_build.proofs.Parts.{at_Begins, Includes-refl}
 use Rattle.net_build.proofs.Stops.{stays_more}
@@ -187,6 +188,7 @@ buffer_control new old shapes copies others draft is old_is =
           (λ u t. takes_control new all u (takes_wider new new (is_added new.enable (length old.regs) (length new.regs) copies) (is_control_but new.enable all) copies all (Includes-refl new) (added_control new.enable (length old.regs) (length new.regs) copies others old_is.there) (λ r c. Contains-append_right others copies r c) u t)) is.control)
           (All-weaker (TakesControl old all) (TakesControl new all) (takes_more new old is.includes all) old.updates
           (control_beside old draft others copies (All-weaker (IsAdded new old) (λ (r : ℕ). length old.regs ≤ r) (λ r a. a.beyond) copies is.added) old_is.each));
+      levels = added_all (SetsWithin new) new.updates old.updates is.includes.updates is.levels (All-weaker (SetsWithin old) (SetsWithin new) (sets_more new old is.includes) old.updates old_is.levels);
     }
 
 -- without copies of its own
@@ -198,6 +200,7 @@ plain_control new old shapes others is old_is = record {
       (λ u t. takes_control new others u (takes_wider new new (is_added new.enable (length old.regs) (length new.regs) []) (is_control_but new.enable others) [] others (Includes-refl new)
       (λ h a. subst (λ (l : List ℕ). IsTrue (is_control_but new.enable l h)) (append-nil others) (added_control new.enable (length old.regs) (length new.regs) [] others old_is.there h a)) (λ r c. none r c) u t)) is.control)
       (All-weaker (TakesControl old others) (TakesControl new others) (takes_more new old is.includes others) old.updates old_is.each);
+  levels = added_all (SetsWithin new) new.updates old.updates is.includes.updates is.levels (All-weaker (SetsWithin old) (SetsWithin new) (sets_more new old is.includes) old.updates old_is.levels);
 }
   where
     none : (r : ℕ) → Contains [] r → Contains others r

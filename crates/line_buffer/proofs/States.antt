@@ -20,6 +20,7 @@ use Rattle.net_build.specs.Draft.{AddsWires, UpdatedBut, with_array, with_update
 use Rattle.net_build.specs.Runs.{StaysInside, IsStill, StillBut}
 use Rattle.net_build.specs.Control.{IsMadeOf, AddsReads}
 use Rattle.net_build.specs.Counters.{control_nets, IsMadeOfRegister, AddsRegister}
+use Rattle.net_build.specs.Depth.{SetsWithin}
 use Rattle.net_build.proofs.Parts.{Includes-trans}
 use Rattle.wiring.proofs.Search.{at_push}
 use Rattle.net_build.proofs.Drafts.{includes_array, includes_update}
@@ -72,6 +73,7 @@ adds_register new old width is = record {
   control = added_as (TakesAdded new old []) (old.updates ++ Set (length old.regs) is.next ∷ []) new.updates old.updates is.updates
       (added_last (TakesAdded new old []) old.updates (Set (length old.regs) is.next)
       (inr (All-weaker (IsMadeOfRegister new (length old.regs)) (IsMadeOf new (is_added new.enable (length old.regs) (length new.regs) [])) (λ h. register_made new old h (omega (arith, ap length is.regs, length_push old.regs width))) (atom_reads is.next) is.next_control)));
+  levels = added_as (SetsWithin new) (old.updates ++ Set (length old.regs) is.next ∷ []) new.updates old.updates is.updates (added_last (SetsWithin new) old.updates (Set (length old.regs) is.next) is.next_levels);
   reads_inside = none_inside new old is.reads;
   puts_inside = added_as (PutsInside new) (old.updates ++ Set (length old.regs) is.next ∷ []) new.updates old.updates is.updates (added_last (PutsInside new) old.updates (Set (length old.regs) is.next) (All-nil (StaysInside new)));
   reads = none_reads new old (is_new old) is.reads;
@@ -119,6 +121,7 @@ module _ (old b1 b2 b3 : Netlist) (shape : Shape) (x : ℕ) (index value : Net) 
     only = λ k v low at. only_last old.updates w (λ y. IsState old (update_target y)) (λ state. omega (arith, state, numbered)) k v low (subst (λ (us : List Update). slice_get us k ≡ Some v) updates_more at);
     still = still_all own;
     control = added_as (TakesAdded b3 old []) (old.updates ++ w ∷ []) b3.updates old.updates updates_more (added_last (TakesAdded b3 old []) old.updates w tt);
+    levels = added_as (SetsWithin b3) (old.updates ++ w ∷ []) b3.updates old.updates updates_more (added_last (SetsWithin b3) old.updates w tt);
     reads_inside = added_as (ReadsInside b3) b2.assigns b3.assigns old.assigns (ap (λ (b : Netlist). b.assigns) put)
         (subst (λ (xs : List Assign). EachAdded (ReadsInside b3) b2.assigns xs) (ap (λ (b : Netlist). b.assigns) made) inside);
     puts_inside = added_as (PutsInside b3) (old.updates ++ w ∷ []) b3.updates old.updates updates_more (added_last (PutsInside b3) old.updates w (All-cons (StaysInside b3) (x, atom.Net index) [] inside_put (All-nil (StaysInside b3))));

@@ -30,6 +30,8 @@ use Rattle.line_buffer.proofs.LineMade.{control_buffer, own_array}
 use Rattle.wiring.specs.History.{was_reset}
 use Rattle.net_build.proofs.Parts.{Includes-refl, Includes-trans, at_Begins}
 use Rattle.net_build.proofs.Grown.{net_more, width_more}
+use Rattle.net_build.specs.Depth.{SetsWithin}
+use Rattle.net_build.proofs.Control.{sets_more}
 use Rattle.net_build.proofs.Depth.{within_more, within_wider, within_deeper, within_wire}
 use Rattle.wiring.proofs.Search.{at_push}
 use Rattle.net_build.proofs.Stops.{inside_below}
@@ -85,6 +87,7 @@ module _ (c b a : Netlist) (shapes : List Shape) (x : ℕ) (g : AddsTaps c b x) 
     only = λ k u low at state. f.only k u low (subst (λ (us : List Update). slice_get us k ≡ Some u) g.wires.updates at) state;
     still = λ others free is. still_wires c b (others ++ []) free g.includes g.wires (f.still others free is);
     control = added_as (TakesAdded c a []) b.updates c.updates a.updates g.wires.updates (added_weaker (TakesAdded b a []) (TakesAdded c a []) b.updates a.updates same_control f.control);
+    levels = added_as (SetsWithin c) b.updates c.updates a.updates g.wires.updates (added_weaker (SetsWithin b) (SetsWithin c) b.updates a.updates (sets_more c b g.includes) f.levels);
     reads_inside = added_joined (ReadsInside c) c.assigns b.assigns a.assigns g.includes.assigns g.reads_inside (added_weaker (ReadsInside b) (ReadsInside c) b.assigns a.assigns (λ y. inside_more c b g.includes (right_accesses y.right)) f.reads_inside);
     puts_inside = added_as (PutsInside c) b.updates c.updates a.updates g.wires.updates (added_weaker (PutsInside b) (PutsInside c) b.updates a.updates (λ u. inside_more c b g.includes (update_accesses u)) f.puts_inside);
     reads = reads_joined c b a (is_new a) g.includes (reads_weaker c b (λ y. y == x) (is_new a) wider g.reads) f.reads;

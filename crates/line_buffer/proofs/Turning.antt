@@ -7,7 +7,7 @@ use Rattle.std.proofs.lemmas.Nat.{mod_below}
 use Rattle.std.proofs.lemmas.Option.{get_or_from_slice_get, slice_get_cases, slice_get_within}
 use Rattle.wiring.specs.declared.right.Atom.TheVariants as atom
 use Rattle.wiring.specs.declared.netlist.Net.{Net}
-use Rattle.wiring.specs.declared.netlist.Holder.TheVariants.{OfNet, OfArray}
+use Rattle.wiring.specs.declared.netlist.Holder.TheVariants.{OfArray}
 use Rattle.wiring.specs.declared.netlist.Shape.{Shape}
 use Rattle.wiring.specs.Netlist.{Netlist, depth}
 use Rattle.wiring.specs.Snapshot.{Contents, Snapshot, FitsContents, IsNext, net_value, word_value}
@@ -19,13 +19,13 @@ use Rattle.net_build.proofs.Parts.{at_Begins, InEach-more}
 use Rattle.net_build.proofs.Stops.{inside_below}
 use Rattle.net_build.proofs.Fitting.{array_long}
 use Rattle.net_build.proofs.Runs.{AtEachEdge-more, InEachRun-more, clock_more, clock_contents, reset_shown}
-use Rattle.net_build.specs.Counters.{unless_held, Counts, IsMadeOfRegister, clock_number}
-use Rattle.net_build.specs.Control.{is_control, IsControl}
+use Rattle.net_build.specs.Counters.{unless_held, Counts, clock_number}
 use Rattle.wiring.specs.declared.right.Right.TheVariants.{Word}
 use Rattle.wiring.specs.declared.netlist.Update.TheVariants.{Put}
 use Rattle.line_buffer.specs.Lines.{IsIndex, IsDelayLine, Delays}
-use Rattle.line_buffer.proofs.Filling.{contains_more, index_control_more, right_more, unless_held_more, word_more, takes_net_more, line_takes_net, line_word}
-use Rattle.net_build.proofs.Control.{in_control}
+use Rattle.line_buffer.specs.Depths.{line_operators}
+use Rattle.line_buffer.proofs.Depth.{index_within_more}
+use Rattle.line_buffer.proofs.Filling.{contains_more, right_more, unless_held_more, word_more, takes_net_more, line_takes_net, line_word}
 use Rattle.net_build.proofs.Clocks.{now_on, not_reset, number_off, taken_here, by_clock}
 
 -- what an array takes in a clock that is no reset clock
@@ -49,9 +49,6 @@ index_below b n index some is = record { below = λ m from before c s clock sinc
 pub index_counts : (b : Netlist) (last words : ℕ) (index : Net) → 0 < words → last ≡ words - 1 → Counts b (λ t. t % suc last) index → IsIndex b words index
 index_counts b last words index some e is = subst (λ (n : ℕ). Counts b (λ t. t % n) index) (let f : suc last ≡ words = omega (arith, some, e) in f) is
 
-pub register_control : (b : Netlist) (k : ℕ) (n : Net) → IsMadeOfRegister b k (OfNet n) → IsControl b (OfNet n)
-register_control b k n is = is (is_control b.enable) (λ m c. in_control b.enable k m c)
-
 abbrev pub words_of : Contents → ℕ → List ℕ
 words_of c x = slice_index_or c.arrays x []
 
@@ -62,7 +59,7 @@ line_more b a x n from to f is = record {
   deep = is.deep;
   index = is.index;
   counter = index_more b a n is.index f is.counter;
-  control = index_control_more b a is.index f is.control;
+  control = index_within_more b a line_operators is.index f is.control;
   read = right_more b a to (Word x (atom.Net is.index)) f is.read;
   gives = InEach-more (λ m s. net_value s to ≡ word_value s x (net_value s is.index)) b a f is.gives;
   stored = is.stored;

@@ -21,7 +21,7 @@ use Rattle.net_build.specs.Includes.{Includes}
 use Rattle.net_build.specs.Draft.{IsNet, UpdatedBut}
 use Rattle.net_build.specs.Runs.{IsClockOf, InEachRun, StaysInside, IsReady, StillBut}
 use Rattle.net_build.specs.Control.{IsMadeOf, is_control, AddsReads}
-use Rattle.net_build.specs.Depth.{IsWithin}
+use Rattle.net_build.specs.Depth.{IsWithin, SetsWithin}
 use Rattle.line_buffer.specs.Added.{EachAdded}
 use Rattle.line_buffer.specs.Streams.{IsPixel, BufferIsRight}
 use Rattle.line_buffer.specs.Places.{Place, word_at, depth_of}
@@ -67,7 +67,7 @@ pub record IsAdded (new old : Netlist) (r : ℕ) : Type 0 where
   pub beyond : length old.regs ≤ r
   pub there : r < length new.regs
 
--- Arrays of these shapes are added, and wires and registers. The wires read only these arrays. Each added register takes what is made of rst, en and added registers, except the copies: so neither the image's net nor a din goes into another one. Each added access is inside its array. Each added register and array is updated, and keeps its contents in held clocks, after a reset if there are copies. No other register or array gets an update.
+-- Arrays of these shapes are added, and wires and registers. The wires read only these arrays. Each added register takes what is made of rst, en and added registers, except the copies: so neither the image's net nor a din goes into another one. Each clock path to an added register is short. Each added access is inside its array. Each added register and array is updated, and keeps its contents in held clocks, after a reset if there are copies. No other register or array gets an update.
 pub record AddsBuffer (new old : Netlist) (shapes : List Shape) (copies : List ℕ) : Type 0 where
   pub includes : Includes new old
   pub arrays : new.arrays ≡ old.arrays ++ shapes
@@ -76,6 +76,7 @@ pub record AddsBuffer (new old : Netlist) (shapes : List Shape) (copies : List �
   pub only : (k : ℕ) (u : Update) → length old.updates ≤ k → slice_get new.updates k ≡ Some u → IsState old (update_target u) → ⊥
   pub still : (others : List ℕ) (free : List Holder) → StillBut old others free → StillBut new (others ++ copies) free
   pub control : EachAdded (TakesAdded new old copies) new.updates old.updates
+  pub levels : EachAdded (SetsWithin new) new.updates old.updates
   pub reads_inside : EachAdded (ReadsInside new) new.assigns old.assigns
   pub puts_inside : EachAdded (PutsInside new) new.updates old.updates
   pub reads : AddsReads new old (is_new old)

@@ -14,7 +14,9 @@ use Rattle.net_build.specs.Draft.{IsNet}
 use Rattle.net_build.specs.Runs.{InEachRun, StaysBelow, IsReady}
 use Rattle.net_build.specs.declared.counters.Indices.{Indices}
 use Rattle.net_build.specs.Counters.{Counts, unless_held, loaded, IsLoaded, Cycles}
-use Rattle.net_build.specs.Control.{IsControl}
+use Rattle.net_build.specs.Control.{is_control}
+use Rattle.net_build.specs.Depth.{IsWithin}
+use Rattle.line_buffer.specs.Depths.{line_operators, ahead_operators}
 use Rattle.line_buffer.specs.Fills.{IsWordAt, IsUnlessHeld, IsWordOf, Takes}
 
 -- since a reset the net is the clock's number modulo n
@@ -28,7 +30,7 @@ pub record IsDelayLine (b : Netlist) (array words : ℕ) (from to : Net) : Type 
   pub deep : shape.depth ≡ words
   pub index : Net
   pub counter : IsIndex b words index
-  pub control : IsControl b (OfNet index)
+  pub control : IsWithin b (is_control b.enable) line_operators (OfNet index)
   pub read : IsWordAt b array index to
   pub gives : InEach b (λ m s. net_value s to ≡ word_value s array (net_value s index))
   pub stored : Net
@@ -44,8 +46,8 @@ pub record AreIndices (b : Netlist) (words : ℕ) (at : Indices) : Type 0 where
   pub next_net : IsNet b at.next
   pub now_below : StaysBelow b words at.now
   pub next_below : StaysBelow b words at.next
-  pub now_control : IsControl b (OfNet at.now)
-  pub next_control : IsControl b (OfNet at.next)
+  pub now_control : IsWithin b (is_control b.enable) line_operators (OfNet at.now)
+  pub next_control : IsWithin b (is_control b.enable) ahead_operators (OfNet at.next)
 
 -- The array has n words, at least 2, and the register of the number `copy` copies the word at the index. In each clock that is not held the word at the next index is read, into the copy. In a counted clock the word at the index takes the value of `from`, in a held clock the copy.
 pub record IsBlockLine (b : Netlist) (array words : ℕ) (from : Net) (copy : ℕ) : Type 0 where

@@ -22,10 +22,11 @@ use Rattle.net_build.specs.Draft.{IsNet, number, with_reg, with_update}
 use Rattle.net_build.specs.Runs.{IsClockOf, NeverStops, IsKept, IsStill}
 use Rattle.net_build.specs.Control.{IsMadeOf, IsControlBut, IsControlled}
 use Rattle.net_build.specs.Logic.{AddsLogic, Computes, IsGate}
+use Rattle.net_build.specs.Depth.{IsWithin, is_start, control_levels}
 use Rattle.net_build.specs.Counters.{after, control_nets, loaded, IsLoaded, IsMadeOfRegister, AddsRegister, IsIndexNet, Cycles}
 use Rattle.net_build.proofs.Parts.{Includes-refl, Includes-trans}
-use Rattle.net_build.proofs.Grown.{net_more, width_more}
-use Rattle.net_build.proofs.Control.{contains_begins, made_more}
+use Rattle.net_build.proofs.Grown.{net_more, width_more, contains_begins}
+use Rattle.net_build.proofs.Control.{made_more}
 use Rattle.net_build.proofs.Runs.{clock_before, reset_shown, enable_shown}
 use Rattle.net_build.proofs.Clocks.{bool_cases, never, was_off, not_reset, enable_same, count_of}
 use Rattle.net_build.proofs.Logic.{Source, net_source, given_source, computes_as, computes_more, computes_through, binary_computes, choose_computes, first_in, second_in}
@@ -270,5 +271,5 @@ module _ (b0 b1 b2 b3 : Netlist) (register now next taken : Net) (bits last : �
   pub cycle_takes : (copies : List ℕ) → IsControlled b0 copies → Contains copies (number register) ⊎ IsControlBut b3 copies (OfNet taken)
   cycle_takes copies controlled = next_takes b0 b1 b2 b3 register taken bits made at logic put taken_made copies controlled
 
-  pub cycle_adds : (NeverStops b0 → NeverStops b3) → ((copies : List ℕ) → IsControlled b0 copies → IsControlled b3 copies) → AddsRegister b3 b0 bits
-  cycle_adds stops control = register_added b0 b1 b2 b3 register taken bits made at logic put (cycle_still b3 k last now next taken now_value next_value taken_value here) taken_made stops control
+  pub cycle_adds : (NeverStops b0 → NeverStops b3) → ((copies : List ℕ) → IsControlled b0 copies → IsControlled b3 copies) → IsWithin b3 is_start (control_levels b3.enable) (OfNet taken) → AddsRegister b3 b0 bits
+  cycle_adds stops control short = register_added b0 b1 b2 b3 register taken bits made at logic put (cycle_still b3 k last now next taken now_value next_value taken_value here) taken_made stops control short

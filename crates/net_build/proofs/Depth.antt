@@ -15,7 +15,7 @@ use Rattle.net_build.specs.Includes.{Includes}
 use Rattle.net_build.specs.Control as C
 use Rattle.net_build.specs.Control.{IsMadeOf}
 use Rattle.net_build.specs.Depth.{operators, IsWithin, IsOver, by_itself, by_assign}
-use Rattle.net_build.proofs.Control.{contains_begins}
+use Rattle.net_build.proofs.Grown.{contains_begins}
 
 pub within_more : (b a : Netlist) (base : Holder → Bool) {n : ℕ} → Includes b a → {h : Holder} → IsWithin a base n h → IsWithin b base n h
 within_more b a base f (by_itself is) = by_itself is

@@ -26,6 +26,9 @@ use Rattle.wiring.proofs.Lists.{slice_get-append}
 pub length_begins : {X : Type 0} (xs ys : List X) → Begins xs ys → length xs ≤ length ys
 length_begins xs ys b = omega (arith, ap length b.1, length-append xs b.0)
 
+pub contains_begins : {X : Type 0} (xs ys : List X) (x : X) → Begins xs ys → Contains xs x → Contains ys x
+contains_begins xs ys x b c = subst (λ l. Contains l x) (sym b.1) (Contains-append_left xs b.0 x c)
+
 index_begins : (xs ys : List ℕ) (i : ℕ) → Begins xs ys → i < length xs → slice_index ys i ≡ slice_index xs i
 index_begins xs ys i b l = ap (λ (zs : List ℕ). get_or zs i 0) b.1 ∙ get_or_append_left xs b.0 0 i l
 

@@ -20,6 +20,7 @@ use Rattle.net_build.specs.Control.{IsMadeOf, by_itself, IsControlBut, IsControl
 use Rattle.net_build.proofs.Control.{made_more, register_control}
 use Rattle.net_build.proofs.Parts.{Includes-refl, Includes-trans}
 use Rattle.net_build.specs.Logic.{AddsLogic, Computes, IsGate, AreMadeOf}
+use Rattle.net_build.specs.Depth.{IsWithin, is_start, control_levels}
 use Rattle.net_build.specs.Counters.{after, reached, control_nets, taken, Counts, IsMadeOfRegister, IsBehindReset, AddsRegister}
 use Rattle.net_build.proofs.Logic.{Source, number_source, choose_computes, computes_through, computes_as, first_in}
 use Rattle.net_build.proofs.Counting.{input_source, reset_in}
@@ -144,14 +145,15 @@ module _ (b0 b1 b2 b3 : Netlist) (register next : Net) (bits : ℕ) (made : b1 �
   pub next_takes : IsMadeOfRegister b3 k (OfNet next) → (copies : List ℕ) → IsControlled b0 copies → Contains copies (number register) ⊎ IsControlBut b3 copies (OfNet next)
   next_takes is copies controlled = inr (register_control b3 k copies (OfNet next) controlled.there is)
 
-  pub register_added : IsStill b3 [] g → IsMadeOfRegister b3 k (OfNet next) → (NeverStops b0 → NeverStops b3) → ((copies : List ℕ) → IsControlled b0 copies → IsControlled b3 copies) → AddsRegister b3 b0 bits
-  register_added still is stops control = record {
+  pub register_added : IsStill b3 [] g → IsMadeOfRegister b3 k (OfNet next) → (NeverStops b0 → NeverStops b3) → ((copies : List ℕ) → IsControlled b0 copies → IsControlled b3 copies) → IsWithin b3 is_start (control_levels b3.enable) (OfNet next) → AddsRegister b3 b0 bits
+  register_added still is stops control short = record {
     includes = Includes-trans b3 b1 b0 f31 f10;
     regs = regs_are;
     arrays = arrays_are;
     next = atom.Net next;
     updates = updates_are;
     next_control = All-cons (IsMadeOfRegister b3 k) (OfNet next) [] is (All-nil (IsMadeOfRegister b3 k));
+    next_levels = All-cons (IsWithin b3 is_start (control_levels b3.enable)) (OfNet next) [] short (All-nil (IsWithin b3 is_start (control_levels b3.enable)));
     reads = reads_are;
     register_still = still;
     updated = updated_are;
@@ -208,5 +210,5 @@ module _ (b0 b1 b2 b3 : Netlist) (register index next : Net) (bits last : ℕ) (
   still_here : IsStill b3 [] (OfNet (Reg of))
   still_here = register_still b3 of (reached wraps last) (after wraps last) (begins_at wraps last) (goes_on wraps last) index next counter_index counter_next here
 
-  pub counter_adds : (NeverStops b0 → NeverStops b3) → ((copies : List ℕ) → IsControlled b0 copies → IsControlled b3 copies) → AddsRegister b3 b0 bits
-  counter_adds stops control = register_added b0 b1 b2 b3 register next bits made at logic put still_here next_made stops control
+  pub counter_adds : (NeverStops b0 → NeverStops b3) → ((copies : List ℕ) → IsControlled b0 copies → IsControlled b3 copies) → IsWithin b3 is_start (control_levels b3.enable) (OfNet next) → AddsRegister b3 b0 bits
+  counter_adds stops control short = register_added b0 b1 b2 b3 register next bits made at logic put still_here next_made stops control short

@@ -1,17 +1,16 @@
 -- A net that is 1 from some clock on.
 use Rattle.std.proofs.Common.{◌≡◌, ℕ, ◌-◌, ◌^◌, ◌<◌, ◌==◌, nat_le, Bool, true, false, length, refl, sym, ap, subst, ◌∙◌, inl, inr, arith}
-use Rattle.std.specs.Prelude.{if◌then◌else◌, min, [], All}
-use Rattle.std.proofs.lemmas.List.Elements.{All-nil, All-cons}
+use Rattle.std.specs.Prelude.{if◌then◌else◌, min, [], ◌∷◌, ◌++◌, Contains}
 use Rattle.std.proofs.lemmas.Bool.{cases_lt}
 use Rattle.wiring.specs.declared.right.Atom.{Atom}
 use Rattle.wiring.specs.declared.right.Atom.TheVariants as atom
 use Rattle.wiring.specs.declared.right.Operator.TheVariants.{Equal}
-use Rattle.wiring.specs.declared.right.Right.{Right}
 use Rattle.wiring.specs.declared.right.Right.TheVariants.{Binary, Not}
 use Rattle.wiring.specs.declared.netlist.Holder.{Holder}
 use Rattle.wiring.specs.declared.netlist.Holder.TheVariants.{OfNet}
-use Rattle.wiring.specs.BufferBits.{right_reads}
 use Rattle.wiring.specs.declared.netlist.Net.{Net}
+use Rattle.wiring.specs.declared.netlist.Net.TheVariants.{Reg}
+use Rattle.wiring.specs.Sizes.{SizedNumber}
 use Rattle.wiring.specs.Rights.{atom_value}
 use Rattle.wiring.specs.Netlist.{Netlist, net_width, reset_net}
 use Rattle.wiring.specs.Snapshot.{net_value}
@@ -20,9 +19,13 @@ use Rattle.wiring.specs.History.{counted}
 use Rattle.net_build.specs.Includes.{Includes}
 use Rattle.net_build.specs.Draft.{IsNet}
 use Rattle.net_build.specs.Logic.{AddsLogic, IsGate}
-use Rattle.net_build.specs.Control.{IsMadeOf, IsControl, is_control}
-use Rattle.net_build.specs.Counters.{Counts, AddsRegister, AddsControl, IsBehindReset, Starts}
-use Rattle.net_build.proofs.Control.{made_more, control_own, in_control}
+use Rattle.net_build.specs.Control.{is_control}
+use Rattle.net_build.specs.Depth.{IsWithin, by_itself}
+use Rattle.net_build.specs.Counters.{control_nets, start_levels, Counts, AddsRegister, AddsControl, Starts}
+use Rattle.net_build.proofs.Control.{in_control}
+use Rattle.net_build.proofs.Depth.{within_more, within_deeper, within_net, within_constant}
+use Rattle.net_build.proofs.Levels.{binary_within}
+use Rattle.net_build.proofs.Counting.{reset_in}
 use Rattle.net_build.proofs.Parts.{Includes-trans}
 use Rattle.net_build.proofs.Grown.{width_more}
 use Rattle.net_build.proofs.Runs.{reset_shown, clock_more}
@@ -71,18 +74,16 @@ starts_now b0 b1 reset n reset_is is wide grows g = record {
     by false t = ap bit (let e : true ≡ nat_le 0 t = grind arith in e)
 
 -- it is made of rst, en and registers
-pub now_control : (b1 b0 : Netlist) (reset n : Net) → reset ≡ reset_net → IsGate b1 b0 (Not (atom.Net reset)) n → IsControl b1 (OfNet n)
-now_control b1 b0 reset n e g =
+pub now_depth : (b1 b0 : Netlist) (reset n : Net) → reset ≡ reset_net → IsGate b1 b0 (Not (atom.Net reset)) n → IsWithin b1 (is_control b1.enable) start_levels (OfNet n)
+now_depth b1 b0 reset n e g =
     let base : Holder → Bool = is_control b1.enable in
-    g.made_of base (All-cons (IsMadeOf b1 base) (OfNet reset) [] (control_own b1 b1.enable reset (0, omega arith, sym e)) (All-nil (IsMadeOf b1 base)))
+    within_deeper (omega arith) (g.within base 0 (within_net b1 base 0 reset (by_itself (in_control b1.enable 0 reset (subst (Contains (control_nets b1.enable ++ Reg 0 ∷ [])) (sym e) (reset_in b1.enable (Reg 0 ∷ [])))))))
 
-pub later_control : (b2 b1 : Netlist) (register : ℕ) (count n : Net) (a : Atom Net) (bits last : ℕ) → a ≡ atom.Constant (record { width = bits; value = last }) → Includes b2 b1 → IsBehindReset b1 register count → IsGate b2 b1 (Binary Equal (atom.Net count) a) n → IsControl b2 (OfNet n)
-later_control b2 b1 register count n a bits last a_is grows behind g =
+pub later_depth : (b2 b1 : Netlist) (count n : Net) (a : Atom Net) (number : SizedNumber) → a ≡ atom.Constant number → Includes b2 b1 → IsWithin b1 (is_control b1.enable) 1 (OfNet count) → IsGate b2 b1 (Binary Equal (atom.Net count) a) n → IsWithin b2 (is_control b2.enable) start_levels (OfNet n)
+later_depth b2 b1 count n a number a_is grows depth g =
     let base : Holder → Bool = is_control b2.enable in
-    let of_count : IsMadeOf b2 base (OfNet count) = subst (λ (e : Bool). IsMadeOf b2 (is_control e) (OfNet count)) (sym grows.enable) (made_more b2 b1 (is_control b1.enable) grows (behind.made_of (is_control b1.enable) (λ m c. in_control b1.enable register m c))) in
-    g.made_of base
-    (subst (λ (x : Atom Net). All (IsMadeOf b2 base) (right_reads (let r : Right Net ℕ = Binary Equal (atom.Net count) x in r))) (sym a_is)
-    (All-cons (IsMadeOf b2 base) (OfNet count) [] of_count (All-nil (IsMadeOf b2 base))))
+    let of_count : IsWithin b2 base 1 (OfNet count) = subst (λ (e : Bool). IsWithin b2 (is_control e) 1 (OfNet count)) (sym grows.enable) (within_more b2 b1 (is_control b1.enable) grows depth) in
+    binary_within b2 b1 base 1 Equal (atom.Net count) a n g (within_net b2 base 1 count of_count) (within_constant b2 base 1 a number a_is)
 
 -- where a count has come to its end
 at_end : (t last : ℕ) → (if min t last == last then 1 else 0) ≡ bit (nat_le last t)

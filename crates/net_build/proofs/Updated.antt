@@ -16,6 +16,7 @@ use Rattle.net_build.specs.Includes.{Includes, AtEachEdge}
 use Rattle.net_build.specs.Draft.{IsDraft, IsNet, IsRegister, IsFree, number, with_update}
 use Rattle.net_build.specs.Runs.{StaysInside, NeverStops}
 use Rattle.net_build.specs.Control.{IsControlBut, TakesControl, IsControlled}
+use Rattle.net_build.specs.Depth.{IsWithin, is_start, control_levels}
 use Rattle.net_build.proofs.Stops.{update_stops}
 use Rattle.net_build.proofs.Control.{update_control}
 use Rattle.net_build.proofs.Drafts.{draft_update, includes_update, last_update}
@@ -82,10 +83,11 @@ stops_put b self us x i a same e never inside =
     let there : StaysInside n (x, i) = subst (λ (l : List Update). StaysInside (updated b l) (x, i)) e inside in
     subst (λ (l : List Update). NeverStops (updated b l)) (sym e) (update_stops b (Put x i a) (subst NeverStops (sym same) never) (All-cons (StaysInside n) (x, i) [] there (All-nil (StaysInside n))))
 
-pub control_set : (b self : Netlist) (us : List Update) (r : ℕ) (value : Net) (copies : List ℕ) → b ≡ self → us ≡ b.updates ++ Set r (atom.Net value) ∷ [] → IsControlled self copies → Contains copies r ⊎ IsControlBut (updated b us) copies (OfNet value) → IsControlled (updated b us) copies
-control_set b self us r value copies same e is takes =
+pub control_set : (b self : Netlist) (us : List Update) (r : ℕ) (value : Net) (copies : List ℕ) → b ≡ self → us ≡ b.updates ++ Set r (atom.Net value) ∷ [] → IsControlled self copies → Contains copies r ⊎ IsControlBut (updated b us) copies (OfNet value) → IsWithin (updated b us) is_start (control_levels b.enable) (OfNet value) → IsControlled (updated b us) copies
+control_set b self us r value copies same e is takes short =
     let n : Netlist = with_update b (Set r (atom.Net value)) in
-    subst (λ (l : List Update). IsControlled (updated b l) copies) (sym e) (update_control b (Set r (atom.Net value)) copies (subst (λ (x : Netlist). IsControlled x copies) (sym same) is) (by takes))
+    subst (λ (l : List Update). IsControlled (updated b l) copies) (sym e) (update_control b (Set r (atom.Net value)) copies (subst (λ (x : Netlist). IsControlled x copies) (sym same) is) (by takes)
+    (All-cons (IsWithin n is_start (control_levels b.enable)) (OfNet value) [] (subst (λ (l : List Update). IsWithin (updated b l) is_start (control_levels b.enable) (OfNet value)) e short) (All-nil (IsWithin n is_start (control_levels b.enable)))))
   where
     by : Contains copies r ⊎ IsControlBut (updated b us) copies (OfNet value) → TakesControl (with_update b (Set r (atom.Net value))) copies (Set r (atom.Net value))
     by (inl c) = inl c
@@ -94,4 +96,4 @@ control_set b self us r value copies same e is takes =
         inr (All-cons (IsControlBut n copies) (OfNet value) [] (subst (λ (l : List Update). IsControlBut (updated b l) copies (OfNet value)) e is) (All-nil (IsControlBut n copies)))
 
 pub control_put : (b self : Netlist) (us : List Update) (x : ℕ) (i a : Atom Net) (copies : List ℕ) → b ≡ self → us ≡ b.updates ++ Put x i a ∷ [] → IsControlled self copies → IsControlled (updated b us) copies
-control_put b self us x i a copies same e is = subst (λ (l : List Update). IsControlled (updated b l) copies) (sym e) (update_control b (Put x i a) copies (subst (λ (n : Netlist). IsControlled n copies) (sym same) is) tt)
+control_put b self us x i a copies same e is = subst (λ (l : List Update). IsControlled (updated b l) copies) (sym e) (update_control b (Put x i a) copies (subst (λ (n : Netlist). IsControlled n copies) (sym same) is) tt tt)

@@ -13,6 +13,7 @@ use Rattle.wiring.specs.declared.netlist.Update.TheVariants.{Set, Put}
 use Rattle.wiring.specs.Netlist.{Netlist}
 use Rattle.wiring.specs.BufferBits.{atom_reads, right_reads, IsFed}
 use Rattle.wiring.specs.Rights.{array_of}
+use Rattle.net_build.specs.Depth.{SetsWithin}
 
 -- made only of these nets and arrays: one of them, or driven by what is made only of them
 pub data IsMadeOf (m : Netlist) (base : Holder → Bool) : Holder → Type 0 where
@@ -47,10 +48,11 @@ abbrev pub TakesControl : Netlist → (copies : List ℕ) → Update → Type 0
 TakesControl b copies (Set r a) = Contains copies r ⊎ All (IsControlBut b copies) (atom_reads a)
 TakesControl b copies (Put x i a) = Unit {0}
 
--- Each register takes what is made of rst, en and registers, except the copies: registers that may take words of arrays. No other register takes in a copy.
+-- Each register takes what is made of rst, en and registers, except the copies: registers that may take words of arrays. No other register takes in a copy. Each clock path to a register is short.
 pub record IsControlled (b : Netlist) (copies : List ℕ) : Type 0 where
   pub there : All (λ r. r < length b.regs) copies
   pub each : All (TakesControl b copies) b.updates
+  pub levels : All (SetsWithin b) b.updates
 
 -- registers that take only control nets still do
 abbrev pub KeepsControl : (new old : Netlist) → Type 0

@@ -11,6 +11,7 @@ use Rattle.net_build.specs.Includes.{Includes, AtEachEdge}
 use Rattle.net_build.specs.Draft.{IsNet, IsFree, IsRegister, number, with_array, with_update}
 use Rattle.net_build.specs.Runs.{NeverStops, StaysInside}
 use Rattle.net_build.specs.Control.{IsControlled, IsControlBut, KeepsControl}
+use Rattle.net_build.specs.Depth.{IsWithin, is_start, control_levels}
 
 -- how many registers and arrays there are
 abbrev pub state_count : Netlist → ℕ
@@ -52,8 +53,8 @@ pub record Sets (new old : Netlist) (n v : Net) : Type 0 where
   pub edge : AtEachEdge new (λ s next. slice_get next.regs (number n) ≡ Some (net_value s v))
   -- no access is outside its array, if none was
   pub stops : NeverStops old → NeverStops new
-  -- registers stay controlled, if this one is a copy or the net is made of rst, en and registers that are no copies
-  pub control : (copies : List ℕ) → IsControlled old copies → Contains copies (number n) ⊎ IsControlBut new copies (OfNet v) → IsControlled new copies
+  -- registers stay controlled, if this one is a copy or the net is made of rst, en and registers that are no copies, and if its paths are short
+  pub control : (copies : List ℕ) → IsControlled old copies → Contains copies (number n) ⊎ IsControlBut new copies (OfNet v) → IsWithin new is_start (control_levels new.enable) (OfNet v) → IsControlled new copies
 
 -- a word of array x, at the index i, can take the net v
 pub record CanPut (b : Netlist) (x : ℕ) (i v : Net) : Type 0 where

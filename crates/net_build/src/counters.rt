@@ -1,15 +1,16 @@
 // Counters of clocks.
 
-ghost use Rattle.std.specs.Prelude.{suc, ◌≡◌, ◌+◌, ◌%◌, min, ◌<◌, ◌^◌, if◌then◌else◌, IfOk, OnOk};
+ghost use Rattle.std.specs.Prelude.{suc, [], ◌∷◌, ◌++◌, ◌≡◌, ◌+◌, ◌%◌, min, ◌<◌, ◌^◌, if◌then◌else◌, IfOk, OnOk};
 ghost use Rattle.wiring.specs.declared.right.Atom.TheVariants as atom;
 ghost use Rattle.wiring.specs.Netlist.{net_width};
 ghost use Rattle.wiring.specs.Sizes.{IsWidth};
 ghost use Rattle.net_build.specs.Draft.{IsNet};
 ghost use Rattle.wiring.specs.declared.netlist.Holder.TheVariants.{OfNet};
-ghost use Rattle.net_build.specs.Control.{IsControl};
+ghost use Rattle.net_build.specs.Control.{is_control};
+ghost use Rattle.net_build.specs.Depth.{IsOver, IsWithin, hold_levels};
 ghost use Rattle.net_build.specs.Logic.{AddsLogic};
 ghost use Rattle.net_build.specs.Registers.{register_bits, count_bits};
-ghost use Rattle.net_build.specs.Counters.{reached, unless_held, taken, loaded, AreChoices, AreRegisterIndices, IsChoice, IsEnding, IsFollowing, IsLoaded, IsRange, IsRegisterCount, MakesCounter, MakesCycle, AddsControl, Starts};
+ghost use Rattle.net_build.specs.Counters.{control_nets, reached, start_levels, unless_held, taken, loaded, AreChoices, AreRegisterIndices, IsChoice, IsEnding, IsFollowing, IsLoaded, IsRange, IsRegisterCount, MakesCounter, MakesCycle, AddsControl, Starts};
 
 use crate::builder::Builder;
 use crate::gates::{driven, gate, number};
@@ -49,6 +50,8 @@ pub fn count(
     ensures logic { AddsLogic b.new b.old }
     ensures ending { IfOk result (λ c. IsEnding b.new b.old at last c.ending) }
     ensures next { IfOk result (λ c. IsFollowing b.new b.old at bits last wraps c.next) }
+    ensures ending_depth { IfOk result (λ c. IsOver b.new b.old 1 (at ∷ []) c.ending) }
+    ensures next_depth { IfOk result (λ c. IsOver b.new b.old 2 (at ∷ []) c.next) }
 {
     let ending = gate(
         b,
@@ -70,6 +73,8 @@ pub fn unless_held(b: &mut Builder, now: Net, next: Net, bits: u8) -> Result<Net
     requires { AreChoices b.old bits now next }
     ensures logic { AddsLogic b.new b.old }
     ensures net { IfOk result (IsChoice b.new b.old now next bits (unless_held b.old.enable)) }
+    ensures depth { IfOk result (IsOver b.new b.old (hold_levels b.old.enable)
+        (control_nets b.old.enable ++ now ∷ (next ∷ []))) }
 {
     if b.has_en() {
         let en = b.en();
@@ -88,6 +93,8 @@ pub fn loaded(b: &mut Builder, now: Net, next: Net, bits: u8) -> Result<Net, Out
     ensures logic { AddsLogic b.new b.old }
     ensures net { IfOk result (IsChoice b.new b.old now next bits (loaded b.old.enable)) }
     ensures right { IfOk result (IsLoaded b.new now next) }
+    ensures depth { IfOk result
+        (IsOver b.new b.old 2 (control_nets b.old.enable ++ now ∷ (next ∷ []))) }
 {
     if b.has_en() {
         let reset = b.rst();
@@ -121,6 +128,8 @@ pub fn register_value(
     requires first { first < 2 ^ bits }
     ensures logic { AddsLogic b.new b.old }
     ensures net { IfOk result (IsChoice b.new b.old now next bits (taken b.old.enable first)) }
+    ensures depth { IfOk result (IsOver b.new b.old (1 + hold_levels b.old.enable)
+        (control_nets b.old.enable ++ now ∷ (next ∷ []))) }
 {
     let going = unless_held(b, now, next, bits)?;
     let reset = b.rst();
@@ -248,7 +257,8 @@ pub fn started(b: &mut Builder, last: u64) -> Result<Net, OutOfMemory>
     ensures net { IfOk result (IsNet b.new) }
     ensures width { IfOk result (λ n. net_width b.new n ≡ 1) }
     ensures starts { IfOk result (Starts b.new last) }
-    ensures control { IfOk result (λ n. IsControl b.new (OfNet n)) }
+    ensures depth { IfOk result
+        (λ n. IsWithin b.new (is_control b.new.enable) start_levels (OfNet n)) }
     ensures bits { OnOk result (register_bits b.new ≡ register_bits b.old + count_bits last) }
 {
     if last == 0 {

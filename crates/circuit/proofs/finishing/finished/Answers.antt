@@ -3,7 +3,7 @@ use Rattle.wiring.specs.declared.netlist.Net.{Net}
 use Rattle.circuit.specs.Ends.{CanEnd, IsClosed}
 use Rattle.circuit.specs.Taps.{size_in, HaveTaps, AreTapsOf}
 use Rattle.circuit.proofs.Placing.{own_tests}
-use Rattle.circuit.proofs.Behaving.{can_end, have_taps, module_is, whole, arrays, properties, read_nets, computed, apart, registers}
+use Rattle.circuit.proofs.Behaving.{can_end, have_taps, module_is, whole, arrays, properties, read_nets, computed, apart, clock_paths, registers}
 use Rattle.circuit.proofs.finishing.finished.Goals as goal
 
 pub closed-requires : goal.closed-requires
@@ -41,6 +41,8 @@ returns g c = record {
   property = properties c.in_ok-module.module.netlist c.args.b c.args.ir.now c.args.plan.now (g.F.BufferForm.form c.args.form.now) c.args.images.nets.items c.args.images.taps.items c.args.images.tests c.law.ensures c.requires.stencils c.requires.images.built
       (subst (λ (ns : List Net). IsClosed c.in_ok-module.module.netlist c.args.b c.args.plan.now ns c.args.images.tests) c.deref-2.ensures.value c.in_ok-module.ensures.closed);
   apart = apart c.in_ok-module.module.netlist c.args.b c.args.ir.now c.args.plan.now (g.F.BufferForm.form c.args.form.now) c.args.images.nets.items c.args.images.taps.items c.args.images.tests c.law.ensures c.requires.stencils c.requires.images.built
+      (subst (λ (ns : List Net). IsClosed c.in_ok-module.module.netlist c.args.b c.args.plan.now ns c.args.images.tests) c.deref-2.ensures.value c.in_ok-module.ensures.closed);
+  paths = clock_paths c.in_ok-module.module.netlist c.args.b c.args.ir.now c.args.plan.now (g.F.BufferForm.form c.args.form.now) c.args.images.nets.items c.args.images.taps.items c.args.images.tests c.law.ensures c.requires.stencils c.requires.images.built
       (subst (λ (ns : List Net). IsClosed c.in_ok-module.module.netlist c.args.b c.args.plan.now ns c.args.images.tests) c.deref-2.ensures.value c.in_ok-module.ensures.closed);
   registers = registers c.in_ok-module.module.netlist c.args.b c.args.ir.now c.args.plan.now (g.F.BufferForm.form c.args.form.now) c.args.images.nets.items c.args.images.taps.items c.args.images.tests c.law.ensures c.requires.stencils c.requires.images.built
       (subst (λ (ns : List Net). IsClosed c.in_ok-module.module.netlist c.args.b c.args.plan.now ns c.args.images.tests) c.deref-2.ensures.value c.in_ok-module.ensures.closed) c.args.images.turns c.requires.images.registers;

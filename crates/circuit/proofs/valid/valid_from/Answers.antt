@@ -11,7 +11,7 @@ returns-then-has_en c = record {
   net = c.in_ok-net.ensures.gate.net;
   width = search rules;
   valid = started_enabled c.gate.new.b c.started.new.b c.args.latency c.en-en.result c.in_ok-begun.begun c.in_ok-net.net (c.gate.ensures.logic.includes.enable ∙ sym c.has_en.ensures ∙ c.if-has_en.true) c.en-en.ensures.enable c.gate.ensures.logic.includes
-      c.in_ok-begun.ensures.start.starts c.in_ok-begun.ensures.start.control c.in_ok-net.ensures.gate;
+      c.in_ok-begun.ensures.start.starts c.in_ok-begun.ensures.start.depth c.in_ok-net.ensures.gate;
 }
 
 pub returns : goal.returns
@@ -20,5 +20,5 @@ returns c = record {
   bits = c.in_ok-begun.ensures.start.bits;
   net = c.in_ok-begun.ensures.start.net;
   width = c.in_ok-begun.ensures.start.width;
-  valid = started_free c.started.new.b c.args.latency c.in_ok-begun.begun (sym c.has_en.ensures ∙ c.if-has_en.false) c.in_ok-begun.ensures.start.starts c.in_ok-begun.ensures.start.control;
+  valid = started_free c.started.new.b c.args.latency c.in_ok-begun.begun (sym c.has_en.ensures ∙ c.if-has_en.false) c.in_ok-begun.ensures.start.starts c.in_ok-begun.ensures.start.depth;
 }

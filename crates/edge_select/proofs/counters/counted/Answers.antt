@@ -5,6 +5,7 @@ use Rattle.net_build.proofs.Parts.{includes_on}
 use Rattle.net_build.proofs.Updating.{free_wires}
 use Rattle.edge_select.proofs.Registering.{still_free, column_takes, row_takes, counters_added, both_updated, both_still, pixel_follows, next_taken}
 use Rattle.edge_select.proofs.Failing.{at_err}
+use Rattle.edge_select.proofs.Levels.{pixel_starts}
 use Rattle.edge_select.proofs.counters.counted.Goals as goal
 
 pub set-requires-2-clause-free : goal.set-requires-2-clause-free
@@ -34,7 +35,9 @@ returns-clause-counters c = record {
       c.in_ok-next.next.column c.in_ok-next.next.row c.in_ok-pixel.ensures.registers.ok c.in_ok-pixel.ensures.registers.column c.in_ok-pixel.ensures.registers.row c.in_ok-next.ensures.logic c.set.ensures.update c.set-2.ensures.update c.in_ok-next.ensures.test in
       let row = row_takes c.args.b.now c.registers.new.b c.pixel_values.new.b c.set.new.self c.set-2.new.self c.in_ok-pixel.pixel c.args.delay (bit_count (c.args.width - 1)) (bit_count (c.args.height - 1))
       c.in_ok-next.next.column c.in_ok-next.next.row c.in_ok-pixel.ensures.registers.ok c.in_ok-pixel.ensures.registers.column c.in_ok-pixel.ensures.registers.row c.in_ok-next.ensures.logic c.set.ensures.update c.set-2.ensures.update c.in_ok-next.ensures.test in
-      c.set-2.ensures.control copies (c.set.ensures.control copies (c.in_ok-next.ensures.logic.control copies (c.registers.ensures.on.control copies is)) (column copies is)) (row copies is);
+      c.set-2.ensures.control copies (c.set.ensures.control copies (c.in_ok-next.ensures.logic.control copies (c.registers.ensures.on.control copies is)) (column copies is)
+      (pixel_starts c.set.new.self c.pixel_values.new.b c.registers.new.b c.in_ok-pixel.pixel c.in_ok-next.next.column _ _ c.in_ok-pixel.ensures.registers.column c.in_ok-pixel.ensures.registers.row c.set.ensures.includes c.in_ok-next.ensures.test.across_depth)) (row copies is)
+      (pixel_starts c.set-2.new.self c.pixel_values.new.b c.registers.new.b c.in_ok-pixel.pixel c.in_ok-next.next.row _ _ c.in_ok-pixel.ensures.registers.column c.in_ok-pixel.ensures.registers.row (includes_on _ _ _ c.set.ensures.includes c.set-2.ensures.includes) c.in_ok-next.ensures.test.down_depth);
 }
 
 pub returns-clause-next : goal.returns-clause-next

@@ -9,4 +9,5 @@ returns c = record {
     computes = c.in_ok-net.ensures.test;
     right = c.before-earlier.ensures.before;
   };
+  depth = c.in_ok-net.ensures.depth;
 }

@@ -14,6 +14,7 @@ returns-then-start-eq0 c = record {
         computes = c.in_ok-net.ensures.test;
         right = λ y low. c.before-earlier.ensures.before y low ∙ ap (λ (t : Bool). in_band h c.args.band (if t then after true (h - 1) y else y)) (sym (eq-eqb c.args.start 0 (omega (arith, c.if-start-eq0.true))));
       };
+  depth = c.in_ok-net.ensures.depth;
 }
 
 pub returns : goal.returns
@@ -25,4 +26,5 @@ returns c = record {
         computes = c.in_ok-net-2.ensures.test;
         right = λ y low. ap (λ (t : Bool). in_band h c.args.band (if t then after true (h - 1) y else y)) (sym (ne_eqb c.args.start 0 (λ e. c.if-start-eq0.false (omega (arith, e)))));
       };
+  depth = c.in_ok-net-2.ensures.depth;
 }

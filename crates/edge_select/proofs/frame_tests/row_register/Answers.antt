@@ -9,7 +9,7 @@ use Rattle.edge_select.proofs.frame_tests.row_register.Goals as goal
 
 pub returns-clause-register : goal.returns-clause-register
 returns-clause-register c = record {
-  adds = row_adds c.register_of.new.b c.next_row_test.new.b c.starts.new.b c.args.b.now (size_of c.args.k.now.pixel.size) c.args.k.now c.args.start c.args.band c.first_bit.result c.in_ok-begins.begins c.in_ok-test.test c.in_ok-net.net c.requires.counters c.in_ok-begins.ensures.logic c.in_ok-test.ensures.logic c.in_ok-begins.ensures.test c.in_ok-test.ensures.test c.in_ok-net.ensures.adds;
+  adds = row_adds c.register_of.new.b c.next_row_test.new.b c.starts.new.b c.args.b.now (size_of c.args.k.now.pixel.size) c.args.k.now c.args.start c.args.band c.first_bit.result c.in_ok-begins.begins c.in_ok-test.test c.in_ok-net.net c.requires.counters c.in_ok-begins.ensures.logic c.in_ok-test.ensures.logic c.in_ok-begins.ensures.test c.in_ok-test.ensures.test c.in_ok-begins.ensures.depth c.in_ok-test.ensures.depth c.in_ok-net.ensures.adds;
   bits = one_more c.register_of.new.b c.next_row_test.new.b c.args.b.now c.in_ok-net.ensures.adds.regs (logic_on _ _ _ c.in_ok-begins.ensures.logic c.in_ok-test.ensures.logic);
 }
 

@@ -10,4 +10,5 @@ returns c = record {
     computes = c.in_ok-net.ensures.test;
     right = λ x low. after_is c.args.k.now.pixel.size.width x c.one_before-earlier.result c.args.start low c.one_before-earlier.ensures.low c.one_before-earlier.ensures.next;
   };
+  depth = c.in_ok-net.ensures.depth;
 }

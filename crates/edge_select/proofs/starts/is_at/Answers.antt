@@ -8,6 +8,7 @@ use Rattle.net_build.proofs.Grown.{net_more, width_more}
 use Rattle.net_build.proofs.Logic.{logic_on}
 use Rattle.edge_select.proofs.Beginning.{both_here}
 use Rattle.edge_select.proofs.Failing.{at_err}
+use Rattle.edge_select.proofs.Levels.{here_over}
 use Rattle.edge_select.proofs.starts.is_at.Goals as goal
 
 pub equal_to-requires-2 : goal.equal_to-requires-2
@@ -31,6 +32,7 @@ returns c = record {
   test = let p = c.args.pixel.now in
       both_here c.gate.new.b c.equal_to-2.new.b c.equal_to.new.b c.args.b.now p.column p.row c.in_ok-across.across c.in_ok-down.down c.in_ok-net.net (λ s. net_value s p.column == c.args.spot.column) (λ s. net_value s p.row == c.args.spot.row)
       c.in_ok-across.ensures.logic.includes c.in_ok-down.ensures.logic.includes c.gate.ensures.logic.includes c.in_ok-across.ensures.test c.in_ok-down.ensures.test c.in_ok-net.ensures.gate;
+  depth = here_over c.gate.new.b c.equal_to-2.new.b c.equal_to.new.b c.args.b.now c.args.pixel.now.column c.args.pixel.now.row c.in_ok-across.across c.in_ok-down.down c.in_ok-net.net c.in_ok-across.ensures.logic.includes c.in_ok-down.ensures.logic.includes c.gate.ensures.logic.includes c.in_ok-across.ensures.depth c.in_ok-down.ensures.depth c.in_ok-net.ensures.gate;
 }
 
 pub returns-in_err-down : goal.returns-in_err-down

@@ -15,7 +15,7 @@ register_of-requires-clause-load c = (
 pub returns-clause-register : goal.returns-clause-register
 returns-clause-register c = record {
   adds = start_adds c.register_of.new.b c.constant_test.new.b c.is_at.new.b c.args.b.now (size_of c.args.k.now.pixel.size) c.args.k.now c.args.last c.last_spot-spot.result.column c.last_spot-spot.result.row c.in_ok-here.here c.in_ok-one.one c.in_ok-net.net c.requires.counters
-      c.in_ok-here.ensures.logic c.in_ok-one.ensures.logic c.in_ok-here.ensures.test c.in_ok-one.ensures.test c.in_ok-net.ensures.adds;
+      c.in_ok-here.ensures.logic c.in_ok-one.ensures.logic c.in_ok-here.ensures.test c.in_ok-one.ensures.test c.in_ok-here.ensures.depth c.in_ok-one.ensures.depth c.in_ok-net.ensures.adds;
   bits = one_more c.register_of.new.b c.constant_test.new.b c.args.b.now c.in_ok-net.ensures.adds.regs (logic_on _ _ _ c.in_ok-here.ensures.logic c.in_ok-one.ensures.logic);
 }
 

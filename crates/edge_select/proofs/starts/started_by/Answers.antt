@@ -6,7 +6,8 @@ use Rattle.net_build.proofs.Bits.{bits_same}
 use Rattle.edge_select.specs.FrameTests.{start_bits}
 use Rattle.edge_select.proofs.Bits.{at_a_pixel, at_no_pixel}
 use Rattle.edge_select.proofs.Beside.{beside_logic, beside_on}
-use Rattle.edge_select.proofs.Beginning.{started_unless, unless_control, beside_control}
+use Rattle.edge_select.proofs.Beginning.{started_unless, beside_control}
+use Rattle.edge_select.proofs.Levels.{unless_depth}
 use Rattle.edge_select.proofs.starts.started_by.Goals as goal
 
 not_both : (b : Bool) → IsTrue b → b ≡ false → ⊥
@@ -22,7 +23,7 @@ returns-then-is_set_at_a_pixel c = record {
   net = c.in_ok-net.ensures.test.net;
   width = c.in_ok-net.ensures.test.width;
   starts = started_unless c.unless_reset.new.b c.start_register.new.b c.args.last c.in_ok-register.register c.in_ok-net.net c.in_ok-net.ensures.logic.includes c.in_ok-register.ensures.test c.in_ok-net.ensures.test;
-  control = unless_control c.unless_reset.new.b c.start_register.new.b c.args.last c.in_ok-register.register c.in_ok-net.net c.in_ok-net.ensures.logic.includes c.in_ok-register.ensures.test c.in_ok-net.ensures.test;
+  depth = unless_depth c.unless_reset.new.b c.start_register.new.b c.in_ok-register.register c.in_ok-net.net c.in_ok-net.ensures.logic.includes c.in_ok-register.ensures.test.depth c.in_ok-net.ensures.depth;
 }
 
 pub returns : goal.returns
@@ -33,5 +34,5 @@ returns c = record {
   net = search rules;
   width = search rules;
   starts = search rules;
-  control = search rules;
+  depth = search rules;
 }

@@ -76,7 +76,7 @@ pub returns : goal.returns
 returns c = record {
   adds = block_adds c.args.b.now c.array.new.self c.reg.new.self c.op.new.self c.loaded.new.b c.stored_net.new.b c.set.new.self c.put.new.self c.args.width c.args.words c.in_ok-array.array c.args.value c.in_ok-copy.copy c.in_ok-ahead.ahead c.in_ok-taken.taken c.in_ok-stored.stored c.args.at c.requires.indices c.requires.some
       c.in_ok-array.ensures.made c.in_ok-array.ensures.number c.in_ok-array.ensures.shape c.in_ok-array.ensures.includes c.in_ok-copy.ensures.ok c.in_ok-copy.ensures.number c.reg.ensures.includes c.op.ensures.includes c.in_ok-ahead.ensures.ok c.op.ensures.wires c.in_ok-ahead.ensures.value c.in_ok-ahead.ensures.made
-      c.loaded.ensures.logic c.in_ok-taken.ensures.net c.in_ok-taken.ensures.right c.stored_net.ensures.logic c.in_ok-stored.ensures.net c.in_ok-stored.ensures.right c.set.ensures.includes c.set.ensures.update c.set.ensures.edge c.put.ensures.includes c.put.ensures.update c.put.ensures.edge;
+      c.loaded.ensures.logic c.in_ok-taken.ensures.net c.in_ok-taken.ensures.right c.stored_net.ensures.logic c.in_ok-stored.ensures.net c.in_ok-stored.ensures.right c.set.ensures.includes c.set.ensures.update c.set.ensures.edge c.put.ensures.includes c.put.ensures.update c.put.ensures.edge c.in_ok-taken.ensures.depth;
   line = block_line_is c.args.b.now c.array.new.self c.reg.new.self c.op.new.self c.loaded.new.b c.stored_net.new.b c.set.new.self c.put.new.self c.args.width c.args.words c.in_ok-array.array c.args.value c.in_ok-copy.copy c.in_ok-ahead.ahead c.in_ok-taken.taken c.in_ok-stored.stored c.args.at c.requires.indices c.requires.some
       c.in_ok-array.ensures.made c.in_ok-array.ensures.number c.in_ok-array.ensures.shape c.in_ok-array.ensures.includes c.in_ok-copy.ensures.ok c.in_ok-copy.ensures.number c.reg.ensures.includes c.op.ensures.includes c.in_ok-ahead.ensures.ok c.op.ensures.wires c.in_ok-ahead.ensures.value c.in_ok-ahead.ensures.made
       c.loaded.ensures.logic c.in_ok-taken.ensures.net c.in_ok-taken.ensures.right c.stored_net.ensures.logic c.in_ok-stored.ensures.net c.in_ok-stored.ensures.right c.set.ensures.includes c.set.ensures.update c.set.ensures.edge c.put.ensures.includes c.put.ensures.update c.put.ensures.edge;

@@ -11,7 +11,7 @@ use Rattle.line_buffer.proofs.sharing.new_turns.Goals as goal
 pub returns : goal.returns
 returns c = record {
   adds = adds_register c.cycle.new.b c.args.b.now _ c.in_ok-indices.ensures.adds;
-  indices = made_indices c.cycle.new.b _ _ _ c.args.words c.in_ok-indices.indices c.requires.0 (ap (λ (w : ℕ). w - 1) c.from-last.ensures) c.in_ok-indices.ensures.now c.in_ok-indices.ensures.next c.in_ok-indices.ensures.cycles;
+  indices = made_indices c.cycle.new.b _ _ _ c.args.words c.in_ok-indices.indices c.requires.0 (ap (λ (w : ℕ). w - 1) c.from-last.ensures) c.in_ok-indices.ensures.now c.in_ok-indices.ensures.next c.in_ok-indices.ensures.cycles c.in_ok-indices.ensures.now_depth c.in_ok-indices.ensures.next_depth;
   bits = λ two.
       let more : register_bits c.cycle.new.b ≡ register_bits c.args.b.now + bit_count (c.from-last.result - 1) = register_push c.cycle.new.b c.args.b.now _ c.in_ok-indices.ensures.adds.regs in
       let last : c.from-last.result - 1 ≡ c.args.words - 1 = ap (λ (w : ℕ). w - 1) c.from-last.ensures in

@@ -6,6 +6,7 @@ use Rattle.net_build.proofs.Operands.{net_operand, binary_operation, choose_oper
 use Rattle.net_build.proofs.Logic.{logic_on}
 use Rattle.net_build.proofs.Counting.{one_fits, number_operand, over_operand, old_operand, ending_computes, next_computes}
 use Rattle.net_build.proofs.Parts.{includes_on}
+use Rattle.net_build.proofs.Levels.{ending_over, next_over}
 use Rattle.net_build.proofs.counters.count.Goals as goal
 
 pub number-requires-2-clause-fits : goal.number-requires-2-clause-fits
@@ -42,3 +43,10 @@ pub returns-clause-ending : goal.returns-clause-ending
 returns-clause-ending c =
     ending_computes c.args.b.now c.gate.new.b c.gate-2.new.b c.gate-3.new.b c.args.at c.args.bits c.args.last c.args.wraps c.number.result c.number-2.result c.over.result c.in_ok-ending.ending c.in_ok-more.more c.in_ok-next.next
     c.gate.ensures.logic.includes c.gate-2.ensures.logic.includes c.gate-3.ensures.logic.includes c.requires.at c.requires.width c.requires.range.wide c.requires.range.fits c.requires.range.needed c.number.ensures c.number-2.ensures c.over.ensures c.in_ok-ending.ensures.gate c.in_ok-more.ensures.gate
+
+pub returns-clause-ending_depth : goal.returns-clause-ending_depth
+returns-clause-ending_depth c = ending_over c.gate-3.new.b c.gate.new.b c.args.b.now c.args.at c.in_ok-ending.ending c.number.result _ c.gate.ensures.logic.includes (includes_on _ _ _ c.gate-2.ensures.logic.includes c.gate-3.ensures.logic.includes) c.number.ensures c.in_ok-ending.ensures.gate
+
+pub returns-clause-next_depth : goal.returns-clause-next_depth
+returns-clause-next_depth c =
+    next_over c.args.b.now c.gate.new.b c.gate-2.new.b c.gate-3.new.b c.args.at c.in_ok-ending.ending c.in_ok-more.more c.in_ok-next.next c.args.bits c.args.wraps c.number.result c.number-2.result c.over.result _ _ c.gate.ensures.logic.includes c.gate-2.ensures.logic.includes c.gate-3.ensures.logic.includes c.number.ensures c.number-2.ensures c.over.ensures c.in_ok-ending.ensures.gate c.in_ok-more.ensures.gate c.in_ok-next.ensures.gate

@@ -6,7 +6,7 @@ use Rattle.net_build.proofs.Operands.{net_operand, not_operation}
 use Rattle.net_build.proofs.Counting.{one_wide}
 use Rattle.net_build.specs.Registers.{register_bits, count_bits}
 use Rattle.net_build.proofs.Bits.{bits_same, bits_more, no_count, some_count}
-use Rattle.net_build.proofs.Starting.{register_adds, logic_adds, control_on, starts_now, starts_later, now_control, later_control}
+use Rattle.net_build.proofs.Starting.{register_adds, logic_adds, control_on, starts_now, starts_later, now_depth, later_depth}
 use Rattle.net_build.proofs.counters.started.Goals as goal
 
 pub gate-requires-clause-operation : goal.gate-requires-clause-operation
@@ -26,12 +26,11 @@ returns-clause-starts c =
     let some : 0 < c.args.last = omega (arith, c.if-last-eq0.false) in
     starts_later c.counter_up_to.new.b c.gate-2.new.b c.in_ok-count.count c.in_ok-net-2.net c.number.result c.bits_for.result c.args.last some c.number.ensures c.gate-2.ensures.logic.includes c.in_ok-count.ensures.counts c.in_ok-net-2.ensures.gate
 
-pub returns-then-last-eq0-clause-control : goal.returns-then-last-eq0-clause-control
-returns-then-last-eq0-clause-control c = now_control c.gate.new.b c.args.b.now c.rst-reset.result c.in_ok-net.net c.rst-reset.ensures.reset c.in_ok-net.ensures.gate
+pub returns-then-last-eq0-clause-depth : goal.returns-then-last-eq0-clause-depth
+returns-then-last-eq0-clause-depth c = now_depth c.gate.new.b c.args.b.now c.rst-reset.result c.in_ok-net.net c.rst-reset.ensures.reset c.in_ok-net.ensures.gate
 
-pub returns-clause-control : goal.returns-clause-control
-returns-clause-control c =
-    later_control c.gate-2.new.b c.counter_up_to.new.b _ c.in_ok-count.count c.in_ok-net-2.net c.number.result c.bits_for.result c.args.last c.number.ensures c.gate-2.ensures.logic.includes c.in_ok-count.ensures.net c.in_ok-net-2.ensures.gate
+pub returns-clause-depth : goal.returns-clause-depth
+returns-clause-depth c = later_depth c.gate-2.new.b c.counter_up_to.new.b c.in_ok-count.count c.in_ok-net-2.net c.number.result _ c.number.ensures c.gate-2.ensures.logic.includes c.in_ok-count.ensures.depth c.in_ok-net-2.ensures.gate
 
 pub returns-then-last-eq0-clause-bits : goal.returns-then-last-eq0-clause-bits
 returns-then-last-eq0-clause-bits c =

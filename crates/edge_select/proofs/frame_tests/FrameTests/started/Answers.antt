@@ -21,7 +21,7 @@ returns-in_ok-net-in-Some-clause-start c = record {
   net = search rules;
   width = search rules;
   starts = search rules;
-  control = search rules;
+  depth = search rules;
 }
 
 pub returns-in_ok-net-in-Some-clause-tests : goal.returns-in_ok-net-in-Some-clause-tests
@@ -35,7 +35,7 @@ returns-in_ok-net-in-None-clause-start c = record {
   net = search rules;
   width = search rules;
   starts = search rules;
-  control = search rules;
+  depth = search rules;
 }
 
 pub returns-in_ok-net-in-None-clause-tests : goal.returns-in_ok-net-in-None-clause-tests

@@ -26,5 +26,5 @@ returns c = record {
       ap (λ (us : List Update). let n : Netlist = record b { updates = us } in n) c.add_set.ensures.items ∙ ap (λ (n : Netlist). with_update n (Set (number c.args.reg) (atom.Net c.args.value))) c.self.view_is;
   edge = edge_updated (netlist_of c.self.inside.wiring) c.add_set.new.updates.items (Set (number c.args.reg) (atom.Net c.args.value)) c.add_set.ensures.items;
   stops = λ never. stops_set (netlist_of c.self.inside.wiring) c.args.self.now c.add_set.new.updates.items (number c.args.reg) (atom.Net c.args.value) c.self.view_is c.add_set.ensures.items never;
-  control = λ copies is takes. control_set (netlist_of c.self.inside.wiring) c.args.self.now c.add_set.new.updates.items (number c.args.reg) c.args.value copies c.self.view_is c.add_set.ensures.items is takes;
+  control = λ copies is takes short. control_set (netlist_of c.self.inside.wiring) c.args.self.now c.add_set.new.updates.items (number c.args.reg) c.args.value copies c.self.view_is c.add_set.ensures.items is takes short;
 }
