@@ -331,7 +331,22 @@ How to read a definition:
 - `.old` is a value before the call, `.new` the value after it, `.now` a value that the call only reads.
 - `IfSome v P` states nothing if v is None, `IfOk r P` nothing if r is an error.
 - Below a definition, `Names:` lists the definitions that it names, each a link.
+
+Names of the toolchain's library that the theorem uses:
+
+- `slice_get xs k` is Some of item k of a list, counted from 0, and None past its end. `slice_index xs k` is item k of a list of numbers, and 0 past its end; `slice_index_or xs k d` is item k, and d past the end.
+- `All P xs`: P holds of each item. `AllZip P xs ys`: the lists have the same length, and P holds of each pair. `xs ++ ys` is both lists joined, `x ∷ xs` the list with x before it.
+- `a ≡ b` is a statement. `a == b` and `nat_lt a b` (a is less than b) are truth values, and `IsTrue b` is the statement that one is true.
+- `pos n` is the natural number n as an integer.
 """
+
+# Words that are read aloud in a minute.
+WORDS_A_MINUTE = 130
+
+
+def minutes(text):
+    """How long reading a text aloud takes. A name or a number is a word; signs and the targets of links are not read."""
+    return -(-len(re.findall(r"\w+", re.sub(r"\]\([^)]*\)", "]", text))) // WORDS_A_MINUTE)
 
 
 def headline(modules, types, places):
@@ -343,8 +358,13 @@ def headline(modules, types, places):
            f"`IsCompiledText` is what the clauses of `dk_main` state of OUT after Done of `compile`. The definitions of the theorem, [{own[0].module.path}](../{own[0].module.path}):"]
     for item in reversed(own):
         out += ["", *([item.sentence, ""] if item.sentence else []), "```", item.text, "```"]
-    beyond = [other for item in reversed(own) for other in named(modules, types, item) if other not in own]
-    return [*out, "", f"Below these are the field's own notions: {links(list(dict.fromkeys(beyond)), places, None)}.", ""]
+    beyond = dict.fromkeys(other for item in reversed(own) for other in named(modules, types, item) if other not in own)
+    unsaid = [item.name for item in [*own, *beyond] if not item.sentence]
+    if unsaid:
+        sys.exit(f"ladder: no sentence for {', '.join(unsaid)}")
+    out += ["", "The definitions that these name, from which the first chapter goes on:", "", "| Name | What it is |", "|---|---|"]
+    out += [f"| {links([item], places, None)} | {item.sentence.replace('|', chr(92) + '|')} |" for item in beyond]
+    return [*out, "", f"Reading the theorem with these tables aloud takes about {minutes(chr(10).join(out))} minutes, at {WORDS_A_MINUTE} words a minute.", ""]
 
 
 def index(modules, types, main, chapters, places):

@@ -10,7 +10,7 @@ use Rattle.raster_delay.specs.Placing.{placed}
 use Rattle.raster_delay.specs.Systems.{System, IsSystem, IsCausal, image_count, placed_reads, widths, depth, bits}
 use Rattle.buffer_plan.specs.Limits.{latency_in, IsWithinLimits}
 
--- a system, and the delays that were taken for it
+-- a schedule: a system of live reads, and a delay in clocks for each of its kept images
 pub record Plan : Type 0 where
   pub system : System
   pub delays : List ℕ

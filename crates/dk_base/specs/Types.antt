@@ -4,6 +4,7 @@ use Rattle.dk_base.specs.declared.TheConstants.{MAX_WIDTH, MAX_PORT_WIDTH}
 use Rattle.dk_base.specs.declared.ty.Ty.{Ty}
 use Rattle.dk_base.specs.declared.ty.Ty.TheVariants.{Unsigned, Signed}
 
+-- the number of bits of a type
 abbrev pub width_of : Ty → ℕ
 width_of (Unsigned n) = n
 width_of (Signed n) = n

@@ -28,6 +28,7 @@ use Rattle.dk_compile.specs.Packed.{ahead_bits}
 abbrev pub Frames : Type 0
 Frames = List (List Picture)
 
+-- the pictures of frame f, one for each input
 abbrev pub frame_at : Frames → ℕ → List Picture
 frame_at frames f = slice_index_or frames f []
 
@@ -59,23 +60,23 @@ pub record StandsStill (m : Netlist) (p : Typing) : Type 0 where
   pub state : (from : Contents) (before : List Clock) (c : Clock) (s : Snapshot) → IsClockOf m m from before c s → IsTrue (was_reset before) → IsTrue (is_held m c)
       → (next : Contents) → IsNext m s next → next ≡ s.contents
 
--- A run from any contents, over a reset clock and then a clock for each list of numbers at the dins; `shots` has the nets' values in each clock.
-pub record IsDriven (m : Netlist) (p : Typing) (dins : List (List ℕ)) (shots : List Snapshot) : Type 0 where
+-- A run from any contents, over a reset clock and then a clock for each list of numbers at the dins; `snapshots` has the nets' values in each clock.
+pub record IsDriven (m : Netlist) (p : Typing) (dins : List (List ℕ)) (snapshots : List Snapshot) : Type 0 where
   pub from : Contents
   pub to : Contents
   pub contents : FitsContents m from
   pub numbers : FitInputs p dins
-  pub run : Runs m from (driven (length p.inputs) dins) shots to
+  pub run : Runs m from (driven (length p.inputs) dins) snapshots to
 
 -- There is such a run from any contents, and no clock of one stops. Output k has `valid` 1 from its latency on, and not before. Its `dout` is then the program's picture of the frames that come in, pixel after pixel and frame after frame.
 pub record ShowsPictures (m : Netlist) (p : Typing) (latency : ℕ → ℕ) : Type 0 where
-  pub runs : (from : Contents) (dins : List (List ℕ)) → FitsContents m from → FitInputs p dins → (shots : List Snapshot) × (to : Contents) × Runs m from (driven (length p.inputs) dins) shots to
-  pub goes_on : (from : Contents) (dins : List (List ℕ)) (shots : List Snapshot) (array index : ℕ) → FitsContents m from → FitInputs p dins
-      → RunStops m from (driven (length p.inputs) dins) shots array index → ⊥
-  pub valid : (dins : List (List ℕ)) (shots : List Snapshot) → IsDriven m p dins shots
-      → (k c : ℕ) (s : Snapshot) → k < length p.outputs → slice_get shots c ≡ Some s → (net_value s (valid_net k) == 1) ≡ nat_lt (latency k) c
-  pub dout : (dins : List (List ℕ)) (shots : List Snapshot) → IsDriven m p dins shots → (frames : Frames) → All (IsRound p) frames → Carries p frames dins
-      → (k q : ℕ) (s : Snapshot) → k < length p.outputs → slice_get shots (q + latency k + 1) ≡ Some s → q < length frames * area p.size
+  pub runs : (from : Contents) (dins : List (List ℕ)) → FitsContents m from → FitInputs p dins → (snapshots : List Snapshot) × (to : Contents) × Runs m from (driven (length p.inputs) dins) snapshots to
+  pub goes_on : (from : Contents) (dins : List (List ℕ)) (snapshots : List Snapshot) (array index : ℕ) → FitsContents m from → FitInputs p dins
+      → RunStops m from (driven (length p.inputs) dins) snapshots array index → ⊥
+  pub valid : (dins : List (List ℕ)) (snapshots : List Snapshot) → IsDriven m p dins snapshots
+      → (k c : ℕ) (s : Snapshot) → k < length p.outputs → slice_get snapshots c ≡ Some s → (net_value s (valid_net k) == 1) ≡ nat_lt (latency k) c
+  pub dout : (dins : List (List ℕ)) (snapshots : List Snapshot) → IsDriven m p dins snapshots → (frames : Frames) → All (IsRound p) frames → Carries p frames dins
+      → (k q : ℕ) (s : Snapshot) → k < length p.outputs → slice_get snapshots (q + latency k + 1) ≡ Some s → q < length frames * area p.size
       → pos (net_value s (dout_net k)) ≡ pixel_of p.size (λ f. output_picture p (frame_at frames f) k) q
 
 -- The Verilog text is right for the program that the source denotes, at this age, with the port `en` or without it, and with block memories or without them.

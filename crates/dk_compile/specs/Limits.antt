@@ -11,7 +11,7 @@ use Rattle.source_fault.specs.declared.fault.SourceFault.TheVariants.{Bits, Late
 use Rattle.dk_compile.specs.Sources.{IsAccepted, IsSourceFault}
 use Rattle.dk_compile.specs.Fronts.{IsFront}
 
--- The text is that of a program within its limits, which has this form and, at this age, this system of its live reads.
+-- The text is that of a program within its limits, which has this form and, at this age, this system: its kept images with their widths, and its live reads.
 pub record HasSystem (text : List ℕ) (age : ℕ) (p : Typing) (ir : Program) (s : System) : Type 0 where
   pub front : IsFront text p ir s.stencils
   pub age_is : s.age ≡ age

@@ -54,7 +54,7 @@ pub record Definition : Type 0 where
   pub declared : Option Ty
   pub body : Typed
 
--- a program; outputs are the numbers of images
+-- A typed program: the size of its frame, its inputs and its definitions, each with a type, and the numbers of the images that are outputs. The inputs are the images 0, 1 and so on, the definitions are numbered on.
 pub record Typing : Type 0 where
   pub size : Size
   pub inputs : List TypedInput
@@ -93,5 +93,6 @@ image_type d = declared_or d.declared (type_of d.body)
 abbrev pub input_types : List TypedInput → List Ty
 input_types is = map (λ i. i.ty) is
 
+-- the types of all images of a program, in the order of their numbers: the inputs first
 abbrev pub types_of : Typing → List Ty
 types_of p = input_types p.inputs ++ map image_type p.definitions

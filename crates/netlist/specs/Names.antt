@@ -15,7 +15,7 @@ pub record ModuleNames : Type 0 where
 abbrev pub names_of : Names → ModuleNames
 names_of n = record { «module» = n.module; wires = n.wires.items; regs = n.regs.items; arrays = n.arrays.items }
 
--- a netlist with names
+-- a module: a netlist, with the names of its nets and arrays
 pub record NamedNetlist : Type 0 where
   pub netlist : Netlist
   pub names : ModuleNames
@@ -49,6 +49,7 @@ abbrev pub din_names : ℕ → ℕ → List (List ℕ)
 din_names k zero = []
 din_names k (suc n) = din_name k ∷ din_names (suc k) n
 
+-- the names of the ports of n outputs from number k on: for each its valid and its dout
 abbrev pub output_names : ℕ → ℕ → List (List ℕ)
 output_names k zero = []
 output_names k (suc n) = valid_name k ∷ (dout_name k ∷ output_names (suc k) n)
@@ -60,6 +61,7 @@ names_after_clock enable dins = reset_name ∷ (if enable then enable_name ∷ d
 abbrev pub input_names : Netlist → List (List ℕ)
 input_names m = clock_name ∷ names_after_clock m.enable (length m.inputs - first_din m)
 
+-- the names of the ports, in the order of the text: the inputs, then the outputs
 abbrev pub port_names : Netlist → List (List ℕ)
 port_names m = input_names m ++ output_names 0 (length m.outputs / 2)
 

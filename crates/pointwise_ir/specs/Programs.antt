@@ -13,7 +13,7 @@ use Rattle.pointwise_ir.specs.declared.program.Parts.{Parts}
 use Rattle.pointwise_ir.specs.Trees.{Tree, tree_of, depth_of, AreNear}
 use Rattle.pointwise_ir.specs.Typing.{HasType}
 
--- The size of the frame; the inputs, which are the images 0, 1 and so on; the further images, which are numbered on; and the numbers of those that are outputs.
+-- The form of a program in which inline images are substituted at each use: the size of the frame; the inputs, which are the images 0, 1 and so on; the further images, which are numbered on; and the numbers of those that are outputs.
 pub record Program : Type 0 where
   pub size : Size
   pub inputs : List Input

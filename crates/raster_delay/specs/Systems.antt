@@ -27,7 +27,7 @@ widths s = widths_of s.stencils.images
 abbrev pub placed_reads : System → List PlacedRead
 placed_reads s = reads_of s.stencils.images s.stencils.reads
 
--- one delay for each kept image, 0 for each input, and the age of each live read at least the one that is asked
+-- No read comes before its pixel: one delay for each kept image, 0 for each input, and the age of each live read is at least the age that `compile` was asked for.
 abbrev pub IsCausal : System → List ℕ → Type 0
 IsCausal s d = AreCausal s.stencils.width s.age s.stencils.inputs (image_count s) (placed_reads s) d
 

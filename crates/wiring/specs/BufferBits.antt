@@ -46,6 +46,7 @@ pub data IsFed (m : Netlist) : Holder → Type 0 where
   by_port : (i : ℕ) → first_din m ≤ i → i < length m.inputs → IsFed m (OfNet (Input i))
   by_drive : {from to : Holder} (d : Drive) → Contains (drives m) d → Contains d.reads from → d.target ≡ to → IsFed m from → IsFed m to
 
+-- the bits of all arrays: width times words, summed
 abbrev pub array_bits : List Shape → ℕ
 array_bits [] = 0
 array_bits (s ∷ arrays) = s.width * s.depth + array_bits arrays
@@ -56,7 +57,7 @@ chosen_bits [] chosen = 0
 chosen_bits (w ∷ regs) [] = 0
 chosen_bits (w ∷ regs) (b ∷ chosen) = (if b then w else 0) + chosen_bits regs chosen
 
--- n is the bits of all arrays and of each register of that set
+-- n is the bits of all arrays and of each register that takes in what came in at a din
 pub record IsBufferBits (m : Netlist) (n : ℕ) : Type 0 where
   pub fed : List Bool
   pub size : length fed ≡ length m.regs

@@ -76,8 +76,10 @@ first_din m = if m.enable then 2 else 1
 abbrev pub din_net : Netlist → ℕ → Net
 din_net m k = Input (first_din m + k)
 
+-- the port `valid` of output k: two ports for each output
 abbrev pub valid_net : ℕ → Net
 valid_net k = Output (2 * k)
 
+-- the port `dout` of output k
 abbrev pub dout_net : ℕ → Net
 dout_net k = Output (2 * k + 1)

@@ -27,6 +27,7 @@ IsPortCount n = (1 ≤ n) × (n ≤ MOST_PORTS)
 abbrev pub IsPortWidth : ℕ → Type 0
 IsPortWidth w = (1 ≤ w) × (w ≤ MOST_PORT_BITS)
 
+-- the widths of the output ports: before each dout a valid of one bit
 abbrev pub with_valids : List ℕ → List ℕ
 with_valids [] = []
 with_valids (w ∷ douts) = 1 ∷ (w ∷ with_valids douts)

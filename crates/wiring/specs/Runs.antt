@@ -12,7 +12,7 @@ Runs m from [] (s ∷ shots) to = ⊥
 Runs m from (c ∷ clocks) [] to = ⊥
 Runs m from (c ∷ clocks) (s ∷ shots) to = (next : Contents) × Steps m from (given m c) s next × Runs m next clocks shots to
 
--- the run over these clocks stops: a snapshot of each clock before that which stops
+-- The run over these clocks stops: it has a snapshot of each clock before one in which an index is past the end of its array.
 abbrev pub RunStops : Netlist → Contents → List Clock → List Snapshot → ℕ → ℕ → Type 0
 RunStops m from [] shots array index = ⊥
 RunStops m from (c ∷ clocks) [] array index = Stops m from (given m c) array index

@@ -24,6 +24,7 @@ pub record Snapshot : Type 0 where
   pub wires : List ℕ
   pub contents : Contents
 
+-- the value of a net in a snapshot; that of a register is the one before the edge
 abbrev pub net_value : Snapshot → Net → ℕ
 net_value s (Input i) = slice_index s.inputs i
 net_value s (Output i) = slice_index s.outputs i
@@ -34,10 +35,11 @@ net_value s (Reg i) = slice_index s.contents.regs i
 abbrev pub word_value : Snapshot → ℕ → ℕ → ℕ
 word_value s a i = slice_index (slice_index_or s.contents.arrays a []) i
 
--- each number fits its width
+-- there is a number for each width, and it is less than 2 to the width
 abbrev pub Fit : List ℕ → List ℕ → Type 0
 Fit widths values = AllZip (λ w v. v < 2 ^ w) widths values
 
+-- each register holds a number of its width, and each array as many words as it has, of its width
 pub record FitsContents (m : Netlist) (c : Contents) : Type 0 where
   pub regs : Fit m.regs c.regs
   pub arrays : AllZip (λ (s : Shape) words. (length words ≡ s.depth) × All (λ w. w < 2 ^ s.width) words) m.arrays c.arrays
