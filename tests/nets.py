@@ -3,11 +3,12 @@
 
 usage: python3 tests/nets.py PROGRAM [NAME..]      NAME is an example, by default each of examples/programs
 
-For each example and each set of options: each net is declared in the text with the width of its line; the kept images, their widths and delays and the
+For each example and each set of options: the digest is the SHA-256 of the text, by Python's hashlib; each net is declared in the text with the width of its line; the kept images, their widths and delays and the
 number of live reads are those of `plan`; the age of a read is that of the delays; and in a trace of the text the net of an image has the pixel of its
 picture at the clock of its delay, and that of a read the pixel that is its age older. The pictures are those of `eval`, of programs in which the images
 are outputs.
 """
+import hashlib
 import importlib.machinery
 import importlib.util
 import os
@@ -60,7 +61,10 @@ class Example:
         report = plan.Report(dk.need("plan", "--age", age, "p.dk"))
         nets = Nets(dk.need("nets", *options, "p.dk"))
         dk.need("compile", *options, "p.dk", "p.v")
-        declared = {match[2]: int(match[1] or 0) + 1 for match in DECLARED.finditer(dk.read("p.v").decode())}
+        verilog = dk.read("p.v")
+        if nets.digest != hashlib.sha256(verilog).hexdigest():
+            yield "the digest is not that of the text"
+        declared = {match[2]: int(match[1] or 0) + 1 for match in DECLARED.finditer(verilog.decode())}
         images = {name: (width, delay) for name, _, width, delay in nets.images}
         if [(name, width, delay) for name, _, width, delay in nets.images] != [image[:3] for image in report.images]:
             yield "the images are not those of plan"

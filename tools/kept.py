@@ -1,4 +1,5 @@
 """What tools/look, tools/waves and tools/names.py share: calls of dk, the kept images of a program and their types, and the lines of `nets`."""
+import hashlib
 import html
 import os
 import re
@@ -154,13 +155,15 @@ class Read:
 
 
 class Nets:
-    """The lines of `nets`: for each kept image its net, width and delay, for each live read its net, for each output its ports."""
+    """The lines of `nets`: the SHA-256 of the Verilog text, for each kept image its net, width and delay, for each live read its net, for each output its ports."""
 
     def __init__(self, text):
-        self.images, self.reads, self.outputs = [], [], []
+        self.digest, self.images, self.reads, self.outputs = None, [], [], []
         for line in text.splitlines():
             kind, *fields = line.split()
-            if kind == "image":
+            if kind == "text":
+                self.digest = fields[1]
+            elif kind == "image":
                 name, net, width, delay = fields
                 self.images.append((name, net, int(width), int(delay)))
             elif kind == "read":
@@ -168,3 +171,8 @@ class Nets:
                 self.reads.append((Read(reader, name, dx, dy, age), net))
             else:
                 self.outputs.append(tuple(fields))
+
+    def need_text(self, verilog):
+        """Ends the call unless the nets are those of this Verilog text."""
+        if hashlib.sha256(verilog).hexdigest() != self.digest:
+            sys.exit(f"{TOOL}: the nets are not those of the text that compile wrote")

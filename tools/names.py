@@ -70,8 +70,9 @@ def main():
         shutil.copy(words[0], f"{folder}/p.dk")
         nets = Nets(dk.need("nets", *options, "p.dk"))
         dk.need("compile", *options, "p.dk", "p.v")
-        text = dk.read("p.v").decode()
-    sys.stdout.writelines(f"{line}\n" for line in annotated(text, nets))
+        verilog = dk.read("p.v")
+        nets.need_text(verilog)
+    sys.stdout.writelines(f"{line}\n" for line in annotated(verilog.decode(), nets))
 
 
 if __name__ == "__main__":

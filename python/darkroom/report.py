@@ -7,6 +7,7 @@ Units: a delay, a depth, an age and a latency are clocks; a width is bits; dx an
 """
 from __future__ import annotations
 
+import hashlib
 import re
 from dataclasses import dataclass
 from typing import Iterator, Mapping, Union
@@ -19,6 +20,7 @@ _NAME = re.compile("[A-Za-z_][A-Za-z0-9_]{0,63}")
 _TYPE = re.compile("[us]([1-9]|[1-5][0-9]|6[0-4])")
 _NUMBER = re.compile("0|[1-9][0-9]{0,19}")
 _OFFSET = re.compile("0|-?[1-9][0-9]{0,3}")
+_DIGEST = re.compile("[0-9a-f]{64}")
 _NET = re.compile("[A-Za-z_][A-Za-z0-9_$]*")
 
 
@@ -293,8 +295,9 @@ class NetOutput:
 
 @dataclass(frozen=True)
 class Nets:
-    """The lines of `nets`, in their order."""
+    """The lines of `nets`, in their order. `digest` is the SHA-256 (FIPS 180-4) of the Verilog text, in 64 digits of lowercase hex."""
 
+    digest: str
     images: tuple[NetImage, ...]
     reads: tuple[NetRead, ...]
     outputs: tuple[NetOutput, ...]
@@ -307,10 +310,17 @@ class Nets:
             count += 1
         return self.images[:count]
 
+    def is_of(self, verilog: str) -> bool:
+        """Whether the nets are those of this Verilog text, by its digest."""
+        return hashlib.sha256(verilog.encode("ascii")).hexdigest() == self.digest
+
 
 def parse_nets(text: str) -> Nets:
     """Reads what `nets` prints. Raises `FormError` with the number of the first line that is not of its form."""
     lines = _Lines(text)
+    kind, digest = lines.take("text", 2)
+    if kind != "sha256" or not _DIGEST.fullmatch(digest):
+        raise lines.fault("not the SHA-256 of a text")
     images: list[NetImage] = []
     reads: list[NetRead] = []
     outputs: list[NetOutput] = []
@@ -325,4 +335,4 @@ def parse_nets(text: str) -> Nets:
         name, valid, dout = lines.take("output", 3)
         outputs.append(NetOutput(lines.name(name), lines.net(valid), lines.net(dout)))
     lines.end()
-    return Nets(tuple(images), tuple(reads), tuple(outputs))
+    return Nets(digest, tuple(images), tuple(reads), tuple(outputs))

@@ -159,6 +159,7 @@ def test_widen() -> None:
 def test_nets_name_what_compile_writes() -> None:
     nets = compiler.nets(COPY, enable=True, age=1, block=32)
     text = compiler.compile(COPY, enable=True, age=1, block=32)
+    assert nets.is_of(text) and not nets.is_of(compiler.compile(COPY, age=1))
     assert [(image.name, image.width, image.delay) for image in nets.images] == [("a", 8, 0), ("f", 8, 1)]
     assert [(read.reader, read.name, read.dx, read.dy, read.age) for read in nets.reads] == [("f", "a", 0, 0, 1)]
     assert text.startswith("module dk(input clk, input rst, input en, input [7:0] din, output valid, output [7:0] dout);\n")

@@ -171,21 +171,28 @@ def test_dk_names_the_line_too(tmp_path_factory: pytest.TempPathFactory, data: s
         assert said == f"report: line {error.line}\n"
 
 
+# the SHA-256 of the text "abc", which FIPS 180-2 gives as its first example
+ABC = "ba7816bf8f01cfea414140de5dae2223b00361a396177a9cb410ff61f20015ad"
+TEXT = f"text sha256 {ABC}\n"
+
+
 def test_nets() -> None:
-    nets = parse_nets("image a din 8 0\nimage f n28 8 2\nread f a -1 0 n3 3\noutput f valid dout\n")
+    nets = parse_nets(TEXT + "image a din 8 0\nimage f n28 8 2\nread f a -1 0 n3 3\noutput f valid dout\n")
+    assert nets.digest == ABC and nets.is_of("abc") and not nets.is_of("abd")
     assert nets.images == (NetImage("a", "din", 8, 0), NetImage("f", "n28", 8, 2))
     assert nets.reads == (NetRead("f", "a", -1, 0, "n3", 3),)
     assert nets.outputs == (NetOutput("f", "valid", "dout"),)
 
 
 def test_a_copy_has_the_net_of_its_input_and_is_no_input() -> None:
-    nets = parse_nets("image a din 8 0\nimage b din1 8 0\nimage f din 8 0\noutput f valid dout\n")
+    nets = parse_nets(TEXT + "image a din 8 0\nimage b din1 8 0\nimage f din 8 0\noutput f valid dout\n")
     assert [image.name for image in nets.inputs] == ["a", "b"]
 
 
 @pytest.mark.parametrize("text, line", [
-    ("", 1), ("image a din 8 0\n", 2), ("image a din 8\noutput a valid dout\n", 1), ("image a din 8 0\noutput a valid dout", 2),
-    ("image a din 8 0\noutput a valid dout\nread a a 0 0 din 0\n", 3), ("image a din 8 0\nread a a x 0 din 0\noutput a valid dout\n", 2)])
+    ("", 1), (TEXT, 2), ("image a din 8 0\noutput a valid dout\n", 1), (f"text md5 {ABC}\n", 1), (f"text sha256 {ABC[1:]}\n", 1), (f"text sha256 {ABC.upper()}\n", 1),
+    (f"{TEXT}image a din 8 0\n", 3), (f"{TEXT}image a din 8\noutput a valid dout\n", 2), (f"{TEXT}image a din 8 0\noutput a valid dout", 3),
+    (f"{TEXT}image a din 8 0\noutput a valid dout\nread a a 0 0 din 0\n", 4), (f"{TEXT}image a din 8 0\nread a a x 0 din 0\noutput a valid dout\n", 3)])
 def test_nets_refused(text: str, line: int) -> None:
     with pytest.raises(FormError) as found:
         parse_nets(text)

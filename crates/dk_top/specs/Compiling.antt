@@ -29,11 +29,11 @@ pub record IsCompiledText (source : List ℕ) (age : ℕ) (enable : Bool) (block
   pub from : IsCompiledFrom source age enable block compiled
   pub is : text ≡ compiled.text.items
 
--- the lines that name the nets of a module that the text is compiled to
+-- the lines that name the nets of a module that the text is compiled to, with the digest of its Verilog text
 pub record AreNetLines (source : List ℕ) (age : ℕ) (enable : Bool) (block : Option ℕ) (lines : List ℕ) : Type 0 where
   pub compiled : Compiled
   pub from : IsCompiledFrom source age enable block compiled
-  pub are : lines ≡ net_lines compiled.ir compiled.plan compiled.«module» compiled.nets.items compiled.reads.items
+  pub are : lines ≡ net_lines compiled.ir compiled.plan compiled.«module» compiled.nets.items compiled.reads.items compiled.text.items
 
 -- how a module is driven with this many rounds of frames, from zeros or from ones: with a clock for each pixel, and then those of the latency
 abbrev pub filled_drive : Fill → Size → (latency rounds : ℕ) → Drive

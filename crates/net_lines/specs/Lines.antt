@@ -1,6 +1,8 @@
 -- The lines that name the nets of a program's circuit.
 use Rattle.std.specs.Prelude.{ℕ, suc, zero, pos, List, [], ◌++◌, length, slice_index, slice_index_or, codes, decimal}
 use Rattle.std.specs.Fmt.{signed_decimal}
+use Rattle.sha2.specs.Sha256.{sha256}
+use Rattle.hex.specs.Hex.{encode_lower}
 use Rattle.dk_base.specs.declared.stencils.Image.{Image}
 use Rattle.dk_base.specs.declared.stencils.LiveRead.{LiveRead}
 use Rattle.wiring.specs.declared.netlist.Net.{Net}
@@ -55,14 +57,19 @@ output_line p plan m k =
     ++ (field (net_name m (valid_net k))
     ++ (field (net_name m (dout_net k)) ++ codes "\n")))
 
+-- `text sha256 DIGEST`: the SHA-256 of the Verilog text, in 64 digits of lowercase hex
+abbrev pub digest_line : (text : List ℕ) → List ℕ
+digest_line text = codes "text sha256" ++ (field (encode_lower (sha256 text)) ++ codes "\n")
+
 -- the lines of the places from 0 on, this many, one after another
 abbrev pub lines_to : (line : ℕ → List ℕ) → ℕ → List ℕ
 lines_to line zero = []
 lines_to line (suc n) = lines_to line n ++ line n
 
--- a line for each kept image, for each live read and for each output, each in order
-abbrev pub net_lines : Program → Plan → NamedNetlist → (nets reads : List Net) → List ℕ
-net_lines p plan m nets reads =
-    lines_to (image_line p plan m nets) (length plan.system.stencils.images)
+-- the line of the module's text, and then a line for each kept image, for each live read and for each output, each in order
+abbrev pub net_lines : Program → Plan → NamedNetlist → (nets reads : List Net) → (text : List ℕ) → List ℕ
+net_lines p plan m nets reads text =
+    digest_line text
+    ++ (lines_to (image_line p plan m nets) (length plan.system.stencils.images)
     ++ (lines_to (read_line p plan m reads) (length plan.system.stencils.reads)
-    ++ lines_to (output_line p plan m) (length plan.system.stencils.outputs))
+    ++ lines_to (output_line p plan m) (length plan.system.stencils.outputs)))

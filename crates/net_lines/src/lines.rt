@@ -4,25 +4,28 @@ ghost use Rattle.std.specs.Prelude.{◌≡◌, ◌<◌, ◌++◌, length, pos, I
 ghost use Rattle.std.specs.Fmt.{signed_decimal};
 ghost use Rattle.verilog_layout.specs.Layout.{net_name};
 ghost use Rattle.buffer_plan.specs.Plans.{delay_of, read_age};
-ghost use Rattle.net_lines.specs.Lines.{name_of, net_at, image_at, read_at, field, lines_to, image_line, read_place, read_line, output_line, net_lines as all_lines};
+ghost use Rattle.net_lines.specs.Lines.{name_of, net_at, image_at, read_at, field, lines_to, image_line, read_place, read_line, output_line, digest_line, net_lines as all_lines};
 
 use buffer_plan::Plan;
 use dk_base::{LiveRead, OutOfMemory};
+use hex::encode;
 use itoa::Buffer;
 use netlist::{Module, Net};
 use pointwise_ir::Program;
+use sha2::{Digest, Sha256};
 use std::alloc::Global;
 use verilog_print::push_net;
 
 // The bytes that are kept ready for a line.
 const LINE_BYTES: usize = 40;
 
-/// A program with its plan and the module of this plan: the nets of its kept images and of its live reads, in order.
+/// A program with its plan and the module of this plan: its Verilog text, and the nets of its kept images and of its live reads, in order.
 #[derive(Clone, Copy)]
 pub struct NamedNets<'a> {
     pub ir: &'a Program,
     pub plan: &'a Plan,
     pub module: &'a Module,
+    pub text: &'a [u8],
     pub images: &'a [Net],
     pub reads: &'a [Net],
 }
@@ -187,6 +190,18 @@ fn push_output(out: &mut Vec<u8>, nets: &NamedNets, k: usize) -> Result<(), OutO
     Ok(())
 }
 
+// The line of the module's text.
+fn push_digest(out: &mut Vec<u8>, alloc: Global, text: &[u8]) -> Result<(), OutOfMemory>
+    ensures { OnOk result (out.new.items ≡ out.old.items ++ digest_line text.now) }
+{
+    let digest = Sha256::digest(text);
+    let digits = encode(alloc, digest)?;
+    out.extend_from_slice(b"text sha256")?;
+    push_field(out, digits.as_bytes())?;
+    out.extend_from_slice(b"\n")?;
+    Ok(())
+}
+
 fn push_images(out: &mut Vec<u8>, nets: &NamedNets) -> Result<(), OutOfMemory>
     ensures { OnOk result (out.new.items
         ≡ out.old.items ++ lines_to (image_line nets.now.ir.now nets.now.plan.now nets.now.«module».now nets.now.images.now) (length nets.now.plan.now.system.stencils.images)) }
@@ -217,9 +232,9 @@ fn push_outputs(out: &mut Vec<u8>, nets: &NamedNets) -> Result<(), OutOfMemory>
     Ok(())
 }
 
-/// A line for each kept image with its net, its width in bits and its delay in clocks; one for each live read with its net and its age in clocks; and one for each output with its ports `valid` and `dout`. Nets have their names in the module's text.
+/// A line with the SHA-256 of the module's text (FIPS 180-4) in lowercase hex; a line for each kept image with its net, its width in bits and its delay in clocks; one for each live read with its net and its age in clocks; and one for each output with its ports `valid` and `dout`. Nets have their names in the module's text.
 pub fn net_lines(alloc: Global, nets: &NamedNets) -> Result<Vec<u8>, OutOfMemory>
-    ensures { IfOk result (λ text. text.items ≡ all_lines nets.now.ir.now nets.now.plan.now nets.now.«module».now nets.now.images.now nets.now.reads.now) }
+    ensures { IfOk result (λ text. text.items ≡ all_lines nets.now.ir.now nets.now.plan.now nets.now.«module».now nets.now.images.now nets.now.reads.now nets.now.text.now) }
 {
     let lines = nets
         .images
@@ -227,6 +242,7 @@ pub fn net_lines(alloc: Global, nets: &NamedNets) -> Result<Vec<u8>, OutOfMemory
         .saturating_add(nets.reads.len())
         .min(1 << 20);
     let mut text = Vec::with_capacity(alloc, LINE_BYTES * lines)?;
+    push_digest(&mut text, alloc, nets.text)?;
     push_images(&mut text, nets)?;
     push_reads(&mut text, nets)?;
     push_outputs(&mut text, nets)?;

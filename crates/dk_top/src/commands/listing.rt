@@ -46,6 +46,7 @@ impl OfText for NetsWords<'_> {
             ir: &circuit.ir,
             plan: &circuit.plan,
             module: &circuit.module,
+            text: &circuit.text,
             images: &circuit.nets,
             reads: &circuit.reads,
         };

@@ -14,6 +14,7 @@ returns-in-Ok-net_lines-clause-made c =
     record {
       compiled = circuit;
       from = c.in-Ok.ensures.compiled;
-      are = subst (λ reads. lines ≡ net_lines circuit.ir circuit.plan circuit.«module» circuit.nets.items reads) c.deref-2.ensures.value
-          (subst (λ nets. lines ≡ net_lines circuit.ir circuit.plan circuit.«module» nets c.deref-2.result.now) c.deref.ensures.value c.in-Ok-net_lines.ensures);
+      are = subst (λ reads. lines ≡ net_lines circuit.ir circuit.plan circuit.«module» circuit.nets.items reads circuit.text.items) c.deref-3.ensures.value
+          (subst (λ nets. lines ≡ net_lines circuit.ir circuit.plan circuit.«module» nets c.deref-3.result.now circuit.text.items) c.deref-2.ensures.value
+          (subst (λ text. lines ≡ net_lines circuit.ir circuit.plan circuit.«module» c.deref-2.result.now c.deref-3.result.now text) c.deref.ensures.value c.in-Ok-net_lines.ensures));
     }
