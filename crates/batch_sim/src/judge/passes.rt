@@ -5,7 +5,9 @@ ghost use Rattle.cycle_sim.specs.Slots.{words_of};
 ghost use Rattle.lane_rows.specs.Values.{values_of, items_of};
 ghost use Rattle.batch_sim.specs.Arrays.{words_at, AllTakenBack, CanPassAll, CanUndo, CanUndoAll, HasSpareRows, HaveRowsOf, IsArrayRoom, IsPassRoom, IsUndone, OthersStay, PassesAccess, PassesAll};
 
-use crate::judge::arrays::{ArrayAccess, Accesses, ArrayRoom, PassRoom, Undo, pass_first, undo_array};
+use crate::judge::arrays::{
+    Accesses, ArrayAccess, ArrayRoom, PassRoom, Undo, pass_first, undo_array,
+};
 use lane_rows::Row;
 
 // One array in its vector.
