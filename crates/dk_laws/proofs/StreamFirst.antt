@@ -15,7 +15,7 @@ use Rattle.pgm_rounds.specs.Files.{IsHeaded}
 use Rattle.row_stream.proofs.HeadEnds.{exact_whole, one_header}
 use Rattle.dk_top.specs.Streaming.{first_bits, OpenLines, between, opened, LinesTaken, ReadsHeader, to_fault, further_byte, BeginsHeader, in_header, no_byte, ReadsNext, BeginsNext, ReadsToFault, ReadsToFailure}
 use Rattle.dk_top.proofs.StreamTaken.{headed_line}
-use Rattle.dk_top.proofs.StreamOnce.{OneImage, same_rest, raster_length}
+use Rattle.dk_laws.proofs.StreamOnce.{OneImage, same_rest, raster_length}
 
 -- a front of bytes that begin a header and hold none whole
 front_undecided : (xs ys rest more : List ℕ) → xs ++ rest ≡ ys ++ more → length xs ≤ length ys → Undecided ys → Undecided xs

@@ -1,6 +1,6 @@
 use Rattle.std.proofs.Common.{ℕ, List, sym, subst}
 use Rattle.dk_compile.specs.Correct.{IsCorrect}
-use Rattle.dk_top.proofs.laws.correct_law.Goals as goal
+use Rattle.dk_laws.proofs.compiled.correct_law.Goals as goal
 
 pub returns : goal.returns
 returns c source age enable block text is =

@@ -1,5 +1,6 @@
-use Rattle.dk_top.proofs.AgreeLemmas.{Laws, sim_shows, sim_only}
-use Rattle.dk_top.proofs.laws.compile_then_sim_law.Goals as goal
+use Rattle.dk_top.proofs.AgreeLemmas.{Laws}
+use Rattle.dk_laws.proofs.SimLemmas.{sim_shows, sim_only}
+use Rattle.dk_laws.proofs.compiled.compile_then_sim_law.Goals as goal
 
 pub returns : goal.returns
 returns c =
