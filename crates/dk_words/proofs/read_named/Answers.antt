@@ -4,7 +4,7 @@ use Rattle.dk_words.specs.Command.{command_of, command_asked}
 use Rattle.dk_words.specs.Words.{texts}
 use Rattle.dk_words.proofs.ReadLemmas.{names_none}
 use Rattle.dk_words.proofs.RangeLemmas.{read_in}
-use Rattle.dk_words.proofs.read_command.Goals as goal
+use Rattle.dk_words.proofs.read_named.Goals as goal
 
 pub returns-in-Err-clause-none : goal.returns-in-Err-clause-none
 returns-in-Err-clause-none c = λ is. let usage : c.why.result ≡ reason.Usage = cc in names_none (texts c.args.words.now) (λ taken. c.why.ensures.usage usage (c.in-Err.ensures.refused taken))
