@@ -10,3 +10,4 @@ pub mod Judged
 pub mod Widened
 pub mod Narrowed
 pub mod Correct
+pub mod Reported

@@ -10,6 +10,7 @@ mod measures;
 mod narrowing;
 mod options;
 mod reading;
+mod reporting;
 mod widening;
 
 pub use accepted::Front;
@@ -22,5 +23,6 @@ pub use measures::{DeepBody, Measures};
 pub use narrowing::{NarrowText, narrow};
 pub use options::Options;
 pub use reading::{front, typed};
+pub use reporting::{Rewritten, cut_reported, narrow_reported, widen_reported};
 pub use source_fault::{SourceFault, WidenFault};
 pub use widening::{WideMeasures, WideText, WidenError, one_widening_law, widen};

@@ -1,10 +1,9 @@
-use Rattle.std.proofs.Common.{sym, ap, ◌∙◌, rules}
+use Rattle.std.proofs.Common.{sym, ap, ◌∙◌}
 use Rattle.wiring.specs.Netlist.{Netlist}
-use Rattle.dk_top.proofs.commands.simulating.lacking_enable.Goals as goal
+use Rattle.verilog_read.proofs.enables.lacking_enable.Goals as goal
 
 pub returns-else-wiring-clause-lacks : goal.returns-else-wiring-clause-lacks
 returns-else-wiring-clause-lacks c = record {
-  holds = search rules;
   m = c.args.module.now;
   stands = c.requires;
   without = sym (ap (λ (n : Netlist). n.enable) c.wiring.ensures.netlist) ∙ c.if-wiring.false;

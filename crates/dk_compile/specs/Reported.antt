@@ -1,10 +1,13 @@
--- The lines that `cut` writes to Report.
-use Rattle.std.specs.Prelude.{◌≡◌, ℕ, ◌==◌, if◌then◌else◌, List, [], ◌++◌, length, flat_map, codes, decimal}
+-- The lines that report a text that was cut, narrowed or widened.
+use Rattle.std.specs.Prelude.{◌≡◌, ◌≤◌, ℕ, ◌==◌, if◌then◌else◌, List, [], ◌++◌, length, flat_map, codes, decimal}
 use Rattle.body_cuts.specs.declared.uncut.Reason.{Reason}
 use Rattle.body_cuts.specs.declared.uncut.Reason.TheVariants.{Operator, Limit, Name, Moved}
 use Rattle.dk_compile.specs.declared.measures.DeepBody.{DeepBody}
 use Rattle.dk_compile.specs.declared.measures.Measures.{Measures}
+use Rattle.dk_compile.specs.declared.widening.WideMeasures.{WideMeasures}
+use Rattle.dk_compile.specs.Compiled.{HasLeastBits}
 use Rattle.dk_compile.specs.Cuts.{HasMeasures}
+use Rattle.dk_compile.specs.Widened.{HasWideMeasures}
 
 -- why a body has more levels than was asked
 abbrev pub reason_word : Reason → List ℕ
@@ -30,3 +33,26 @@ pub record AreCutLines (text : List ℕ) (most : ℕ) (lines : List ℕ) : Type 
   pub measures : Measures
   pub measured : HasMeasures text most measures
   pub lines_are : lines ≡ cut_lines most measures
+
+-- the line of a text that was narrowed: its least buffer bits, and those of the source
+abbrev pub narrow_line : (bits before : ℕ) → List ℕ
+narrow_line bits before = codes "narrow: bits " ++ decimal bits ++ codes " from " ++ decimal before ++ codes "\n"
+
+-- the line reports the least buffer bits of the text and of the source at age 0
+pub record IsNarrowLine (source text line : List ℕ) : Type 0 where
+  pub bits : ℕ
+  pub before : ℕ
+  pub has : HasLeastBits text bits
+  pub had : HasLeastBits source before
+  pub fewer : bits ≤ before
+  pub line_is : line ≡ narrow_line bits before
+
+-- the line of a text that was widened: its definitions, its least buffer bits, and those of the source
+abbrev pub widen_line : WideMeasures → List ℕ
+widen_line m = codes "widen: definitions " ++ decimal m.definitions ++ codes " bits " ++ decimal m.bits ++ codes " from " ++ decimal m.bits_before ++ codes "\n"
+
+-- the line reports the definitions of the text, and the least buffer bits of the text and of the source at age 0
+pub record IsWidenLine (source text line : List ℕ) : Type 0 where
+  pub measures : WideMeasures
+  pub measured : HasWideMeasures source text measures
+  pub line_is : line ≡ widen_line measures

@@ -3,7 +3,7 @@ use Rattle.dk_words.specs.declared.command.Rewriting.TheVariants.{Widen}
 use Rattle.dk_compile.specs.declared.widening.WidenError.{WidenError}
 use Rattle.dk_compile.specs.Widened.{IsWidenErrorBy}
 use Rattle.dk_top.specs.Unread.{source_ended}
-use Rattle.dk_top.proofs.commands.widening.ending_of_widen.Goals as goal
+use Rattle.dk_top.proofs.commands.rewriting.ending_of_widen.Goals as goal
 
 pub returns-in-Source-clause-fault : goal.returns-in-Source-clause-fault
 returns-in-Source-clause-fault c = λ source phases is.
