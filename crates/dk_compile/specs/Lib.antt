@@ -11,3 +11,4 @@ pub mod Widened
 pub mod Narrowed
 pub mod Correct
 pub mod Reported
+pub mod Ports

@@ -16,13 +16,13 @@ ghost use Rattle.dk_compile.specs.Fronts.{IsForm};
 ghost use Rattle.dk_top.specs.Reading.{ReadsAndNotes, OfFile, AreRead, IsSourceEnding, Stops, TellsRead, NotesOnly};
 
 use crate::commands::compiling::read_compiled;
-use crate::commands::streaming::{is_one_port, run_streamed};
+use crate::commands::streaming::run_streamed;
 use crate::files::write_file;
 use crate::laws::notes_agree_law;
 use crate::reading::read_images;
 use crate::work::Work;
 use dk_base::OutOfMemory;
-use dk_compile::{Compiled, Options, drive_shows_law, one_at_age_law, one_source_law};
+use dk_compile::{Compiled, Options, drive_shows_law, is_one_port, one_at_age_law, one_source_law};
 use dk_desk::{Desk, InSlot, Stage};
 use dk_endings::Ending;
 use dk_words::RunWords;

@@ -1,6 +1,6 @@
 //! `run` of a program with one input and one output: its images are read, clocked and written line by line.
 
-ghost use Rattle.std.specs.Prelude.{◌≡◌, ◌≢◌, ℕ, ◌≤◌, List, false, None, IsTrue};
+ghost use Rattle.std.specs.Prelude.{◌≡◌, ◌≢◌, ℕ, ◌≤◌, List, false, None};
 ghost use Rattle.dk_base.specs.declared.TheConstants.{MAX_LATENCY};
 ghost use Rattle.dk_compile.specs.Fronts.{IsForm};
 ghost use Rattle.dk_types.specs.Typed.{Typing};
@@ -17,17 +17,8 @@ use dk_desk::{Desk, InSlot, Stage};
 use dk_endings::{Ending, ImageFault};
 use netlist::Module;
 use pgm_rounds::one_file_law;
-use pointwise_ir::Program;
 use row_stream::{Stream, StreamFault, din_bits, dout_bits, format_of, streams_most};
 use std::alloc::Global;
-
-// Whether the program has one input and one output.
-pub fn is_one_port(ir: &Program) -> bool
-    ensures yes { IsTrue result → (p : Typing) → IsForm p ir.now → IsOnePort p }
-    ensures no { (p : Typing) → IsForm p ir.now → IsOnePort p → IsTrue result }
-{
-    ir.inputs().len() == 1 && ir.outputs().len() == 1
-}
 
 // Opens the images and streams them.
 fn stream_file<D: Desk>(

@@ -1,8 +1,8 @@
 use Rattle.dk_types.specs.Typed.{typing_of}
-use Rattle.dk_top.proofs.commands.explaining.first_fault.Goals as goal
+use Rattle.dk_compile.proofs.judging.first_fault.Goals as goal
 
-pub returns-in-Ok-clause-found : goal.returns-in-Ok-clause-found
-returns-in-Ok-clause-found c =
+pub returns-in-Ok : goal.returns-in-Ok
+returns-in-Ok c =
     let program = c.in-Ok.field-0 in
     let p = typing_of program.program in
     let planned = c.in-Ok.ensures.planned in
