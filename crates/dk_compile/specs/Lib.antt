@@ -10,3 +10,5 @@ pub mod Judged
 pub mod Widened
 pub mod Narrowed
 pub mod Correct
+pub mod Reported
+pub mod Ports
