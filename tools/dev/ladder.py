@@ -41,7 +41,7 @@ CHAPTERS = [
             ["IsRunAnswer", "CreatesRun", "HoldsAtWrite", "LeavesAtFault", "LeavesAtRead", "IsFaultAt", "IsImageFault"]),
     Chapter("modules", "What makes a module well formed, and its inside",
             "The rules that the nets, registers and arrays of a module keep, which nets and arrays of a compiled module hold which images, and what its registers are for.",
-            ["IsCircuitOf", "BehavesAs", "IsWhole", "AreNetsOf", "AreComputed", "IsApart", "HasRegisters", "IsReadOnce", "IsReadAndPut", "AreAccessedOnce", "CopyLongArrays", "ReadsDirectly", "HasBits", "IsBufferBits", "form_with", "shapes_of", "KeepsRules"]),
+            ["IsCircuitOf", "BehavesAs", "IsWhole", "AreNetsOf", "AreComputed", "IsApart", "HasClockPaths", "HasRegisters", "IsReadOnce", "IsReadAndPut", "AreAccessedOnce", "CopyLongArrays", "ReadsDirectly", "HasBits", "IsBufferBits", "form_with", "shapes_of", "KeepsRules"]),
     Chapter("packed-memories", "Packed memories",
             "When a module is a circuit with its arrays packed, and how the contents of the circuit are seen in it.",
             ["IsPacking", "packed", "KeepsDepth", "View"]),
