@@ -116,14 +116,9 @@ fn made_line<D: Desk>(alloc: Global, desk: &mut D, n: u32) -> Result<Vec<u8>, En
 impl Work for MakeWords {
     ghost command = { λ words. make_command words.number };
 
-    fn perform<D: Desk>(&self, alloc: Global, desk: &mut D) -> Ending {
-        let line = match made_line(alloc, desk, self.number) {
-            Ok(line) => line,
-            Err(ending) => return ending,
-        };
-        match write_report(desk, &line) {
-            Ok(()) => Ending::Done,
-            Err(_) => Ending::WriteFault,
-        }
+    fn perform<D: Desk>(&self, alloc: Global, desk: &mut D) -> Result<(), Ending> {
+        let line = made_line(alloc, desk, self.number)?;
+        write_report(desk, &line)?;
+        Ok(())
     }
 }

@@ -210,7 +210,7 @@ fn run_rounds<D: Desk>(
     };
     match write_file(desk, out, &output) {
         Ok(()) => Ending::Done,
-        Err(_) => Ending::WriteFault,
+        Err(ending) => ending,
     }
 }
 
@@ -247,7 +247,10 @@ fn run_program<D: Desk>(
 impl Work for RunWords<'_> {
     ghost command = { λ words. run_command words.program.now words.image.now words.out.now words.age };
 
-    fn perform<D: Desk>(&self, alloc: Global, desk: &mut D) -> Ending {
-        run_program(alloc, desk, self.program, self.image, self.out, self.age)
+    fn perform<D: Desk>(&self, alloc: Global, desk: &mut D) -> Result<(), Ending> {
+        match run_program(alloc, desk, self.program, self.image, self.out, self.age) {
+            Ending::Done => Ok(()),
+            ending => Err(ending),
+        }
     }
 }
