@@ -1,7 +1,7 @@
 -- What `sim` and `trace` read and leave, for the private functions.
-use Rattle.std.specs.Prelude.{◌≡◌, ◌≢◌, ◌<◌, ◌^◌, ℕ, List, map, Option, None, Some, Result, Err, IfOk, IfErr, OnOk, IfSome, Vec, ⊤}
+use Rattle.std.specs.Prelude.{◌≡◌, ◌≢◌, ◌<◌, ◌^◌, ℕ, List, map, Option, Some, Result, Err, IfOk, IfErr, OnOk, IfSome, Vec, ⊤}
 use Rattle.std.specs.declared.alloc.Global.{Global}
-use Rattle.dk_base.specs.Frames.{Size, IsFrame}
+use Rattle.dk_base.specs.Frames.{Size}
 use Rattle.dk_desk.specs.declared.Stage.TheVariants.{Unasked, Open}
 use Rattle.dk_desk.specs.Outside.{Outside}
 use Rattle.dk_desk.specs.Calls.{IsIfTold, CreatesOnly}

@@ -58,12 +58,7 @@ impl OfText for RewriteWords<'_> {
 }
 
 // Writes a text to File, and then lines to Report.
-fn write_both<D: Desk>(
-    desk: &mut D,
-    name: &str,
-    text: &[u8],
-    lines: &[u8],
-) -> Result<(), Ending>
+fn write_both<D: Desk>(desk: &mut D, name: &str, text: &[u8], lines: &[u8]) -> Result<(), Ending>
     requires { (D.outside desk.old).file.stage ≡ Stage.Unasked }
     ensures { WritesLines name.now text.now lines.now result (D.outside desk.old)
         (D.outside desk.new) }

@@ -210,7 +210,7 @@ fn run_rounds<D: Desk>(
     };
     match write_file(desk, out, &output) {
         Ok(()) => Ending::Done,
-        Err(ending) => ending,
+        Err(_) => Ending::WriteFault,
     }
 }
 

@@ -76,7 +76,6 @@ impl Work for TraceWords<'_> {
     fn perform<D: Desk>(&self, alloc: Global, desk: &mut D) -> Result<(), Ending> {
         let given = read_all(alloc, desk, self.verilog, self.image, None)?;
         let drive = drive_for(self.clocks, PowerUp::Zeros, None);
-        traced(alloc, desk, &given, drive, self.vcd)?;
-        Ok(())
+        traced(alloc, desk, &given, drive, self.vcd)
     }
 }

@@ -1,4 +1,4 @@
-use Rattle.std.proofs.Common.{◌≡◌, Some, List, ℕ, subst, IfSome, rules}
+use Rattle.std.proofs.Common.{Some, subst, IfSome, rules}
 use Rattle.dk_desk.specs.Outside.{Outside}
 use Rattle.dk_endings.specs.declared.ending.Ending.TheVariants as ending
 use Rattle.dk_top.specs.Command.{compile as compile_command}
@@ -14,8 +14,8 @@ returns-in_err-write_file g c =
     let old : Outside = g.D.Desk.outside c.args.desk.now in
     let new : Outside = g.D.Desk.outside c.write_file.new.desk in
     let output : HasStored (Some (compile_command w.program.now w.out.now w.enable w.age w.block)) ending.WriteFault old new = λ opened.
-        text_stored _ w.program.now w.age w.enable w.block c.in_ok-text.text.items _ ending.WriteFault c.in_ok-text.ensures.made
-        (subst (λ bytes. IfSome new.file.bytes (λ written. IsPrefix written bytes)) c.deref.ensures.value (c.in_err-write_file.ensures.prefix opened)) in
+    text_stored _ w.program.now w.age w.enable w.block c.in_ok-text.text.items _ ending.WriteFault c.in_ok-text.ensures.made
+    (subst (λ bytes. IfSome new.file.bytes (λ written. IsPrefix written bytes)) c.deref.ensures.value (c.in_err-write_file.ensures.prefix opened)) in
     at_fault (λ e. PerformsWork (compile_command w.program.now w.out.now w.enable w.age w.block) e old new) c.from_residual-in_err-write_file.result c.in_err-write_file.field-0.0 c.from_residual-in_err-write_file.ensures.1 c.in_err-write_file.ensures.fault (search (rules, output))
 
 pub read_with-requires-clause-ranges : goal.read_with-requires-clause-ranges
