@@ -1,5 +1,6 @@
 -- How the images of a program with one input and one output are streamed, for the private functions.
-use Rattle.std.specs.Prelude.{◌≡◌, ◌≢◌, ℕ, List, false, None, Some, IfSome}
+use Rattle.std.specs.Prelude.{◌≡◌, ◌≢◌, ℕ, List, false, None, Some, IfSome, Vec, Result, IfOk, IfErr, OnOk}
+use Rattle.std.specs.declared.alloc.Global.{Global}
 use Rattle.dk_desk.specs.declared.InSlot.TheVariants.{Image as ImageSlot}
 use Rattle.dk_desk.specs.declared.Stage.TheVariants.{Unasked, Refused, Open}
 use Rattle.dk_desk.specs.Outside.{Outside}
@@ -14,12 +15,13 @@ use Rattle.row_stream.specs.Whole.{LeavesAll, Leaves}
 use Rattle.dk_endings.specs.declared.ending.Ending.{Ending}
 use Rattle.dk_endings.specs.declared.ending.Ending.TheVariants as ending
 use Rattle.dk_endings.specs.declared.ending.ImageFault.TheVariants as image
-use Rattle.dk_top.specs.Verdict.{bytes_of, IsRunAnswer}
+use Rattle.dk_top.specs.Output.{output_file}
+use Rattle.dk_top.specs.Verdict.{bytes_of, run_terms, IsRunAnswer, IsAnswer, IsGoodPair, OfPair}
 use Rattle.dk_top.specs.Streaming.{ReadsRun}
 use Rattle.pgm_rounds.specs.declared.round.Round.{Round}
 use Rattle.dk_compile.specs.declared.compiling.Compiled.{Compiled}
-use Rattle.dk_top.specs.Compiling.{IsCompiledFrom}
-use Rattle.dk_top.specs.Reading.{IsInputOf}
+use Rattle.dk_top.specs.Compiling.{IsCompiledFrom, NotesRun}
+use Rattle.dk_top.specs.Reading.{IsInputOf, OfFile, NotesOnly, ReadsAndNotes, Stops, TellsRead}
 use Rattle.dk_top.specs.Command.{run}
 use Rattle.dk_top.specs.State.{CreatesNothing, OthersStay, HasOwnFile, CreatesRun, IsStoredRun, NotedRun}
 use Rattle.dk_top.specs.Performing.{ReportsRead, ReportsWrite}
@@ -107,3 +109,20 @@ pub record StreamsImages (stream : Stream) (late : ℕ) (image out : List ℕ) (
 -- what `run` does with a machine, of each text and age that it is compiled from
 abbrev pub RunsMachine : Machine → (image out : List ℕ) → Ending → (old new : Outside) → Type 0
 RunsMachine m image out result old new = OfCompiled m.compiled (λ source age. RunsOn source age image out result old new)
+
+-- The file of the pictures that a machine shows of these rounds, clocked from zeros, and what its run notes. Nothing else is changed.
+pub record ClocksRounds {E : Type 0} (m : Machine) (rounds : List Round) (result : Result (Vec ℕ Global) E) (old new : Outside) : Type 0 where
+  pub only : NotesOnly old new
+  pub output : IfOk result (λ output. OfRun m.compiled rounds (λ source file age. OfPair (run_terms age) source file (λ p images. output.items ≡ output_file p images)))
+  pub notes : OnOk result (OfRun m.compiled rounds (λ source file age. OfPair (run_terms age) source file (λ p images. NotesRun source age p images old.notes new.notes)))
+
+-- The same of the rounds of the file of this name, or why there is no such file: the ending is right for the file, and the images were read.
+pub record ClocksFile (m : Machine) (image : List ℕ) (result : Result (Vec ℕ Global) Ending) (old new : Outside) : Type 0 where
+  pub output : IfOk result (λ output. OfCompiled m.compiled (λ source age. OfFile old image (λ file. OfPair (run_terms age) source file (λ p images. output.items ≡ output_file p images))))
+  pub notes : OnOk result (OfCompiled m.compiled (λ source age. OfFile old image (λ file. OfPair (run_terms age) source file (λ p images. NotesRun source age p images old.notes new.notes))))
+  pub fault : IfErr result (λ e. OfCompiled m.compiled (λ source age. OfFile old image (λ file. IsAnswer (run_terms age) source file e)))
+  pub good : OnOk result (OfCompiled m.compiled (λ source age. OfFile old image (λ file. IsGoodPair (run_terms age) source file)))
+  pub stops : IfErr result Stops
+  pub name : IsIfTold new.image.name (Some image)
+  pub only : ReadsAndNotes old new
+  pub cause : TellsRead result old new

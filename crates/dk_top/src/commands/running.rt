@@ -1,22 +1,20 @@
 //! `run`: the circuit of a program is clocked on a file of images.
 
-ghost use Rattle.std.specs.Prelude.{◌≡◌, ◌≤◌, ◌<◌, ◌^◌, ℕ, List, false, None, Some, Err, IfOk, IfErr, OnOk};
+ghost use Rattle.std.specs.Prelude.{◌≡◌, ◌≤◌, ◌<◌, ◌^◌, ℕ, List, false, None, Some, IfOk, IfErr};
 ghost use Rattle.dk_base.specs.declared.TheConstants.{MAX_AGE, MAX_LATENCY, MAX_FILE_IMAGES};
 ghost use Rattle.dk_base.specs.Frames.{IsFrame};
 ghost use Rattle.dk_base.specs.FrameSizes.{size_of};
 ghost use Rattle.dk_desk.specs.Calls.{IsIfTold, OpensOnly};
 ghost use Rattle.dk_top.specs.Command.{run as run_command};
 ghost use Rattle.dk_compile.specs.Limits.{IsFaultAt};
-ghost use Rattle.dk_top.specs.Output.{output_file};
-ghost use Rattle.dk_top.specs.Compiling.{IsCompiledFrom, NotesRun, frame_drive};
-ghost use Rattle.dk_top.specs.Verdict.{run_terms, IsAnswer, IsGoodPair, OfPair};
+ghost use Rattle.dk_top.specs.Compiling.{IsCompiledFrom, frame_drive};
 ghost use Rattle.dk_top.specs.State.{LeavesText};
 ghost use Rattle.dk_top.specs.Streaming.{IsOnePort};
 ghost use Rattle.dk_top.specs.Performing.{OfEnding};
-ghost use Rattle.dk_top.specs.Streams.{AwaitsImages, IsMachine, OfRun, OfCompiled, RunsMachine};
+ghost use Rattle.dk_top.specs.Streams.{AwaitsImages, ClocksFile, ClocksRounds, IsMachine, RunsMachine};
 ghost use Rattle.dk_types.specs.Typed.{Typing};
 ghost use Rattle.dk_compile.specs.Fronts.{IsForm};
-ghost use Rattle.dk_top.specs.Reading.{ReadsAndNotes, OfFile, AreRead, IsSourceEnding, Stops, TellsRead, NotesOnly};
+ghost use Rattle.dk_top.specs.Reading.{OfFile, AreRead, IsSourceEnding, Stops, TellsRead};
 
 use crate::commands::compiling::read_compiled;
 use crate::commands::streaming::{is_one_port, run_streamed};
@@ -80,13 +78,8 @@ pub fn clocked<D: Desk>(
 ) -> Result<Vec<u8>, OutOfMemory>
     requires machine { IsMachine machine.now }
     requires read { AreRead machine.now.compiled.ir rounds.now }
-    ensures only { NotesOnly (D.outside desk.old) (D.outside desk.new) }
-    ensures output { IfOk result (λ output. OfRun machine.now.compiled rounds.now
-        (λ source file age. OfPair (run_terms age) source file
-        (λ p rounds. output.items ≡ output_file p rounds))) }
-    ensures notes { OnOk result (OfRun machine.now.compiled rounds.now (λ source file age. OfPair (run_terms age) source file
-        (λ p rounds. NotesRun source age p rounds (D.outside desk.old).notes
-        (D.outside desk.new).notes))) }
+    ensures { ClocksRounds machine.now rounds.now result (D.outside desk.old)
+        (D.outside desk.new) }
 {
     one_source_law();
     drive_shows_law();
@@ -150,21 +143,7 @@ fn ran<D: Desk>(
 ) -> Result<Vec<u8>, Ending>
     requires machine { IsMachine machine.now }
     requires awaits { AwaitsImages (D.outside desk.old) }
-    ensures output { IfOk result (λ output. OfCompiled machine.now.compiled (λ source age. OfFile (D.outside desk.old) image.now
-        (λ file. OfPair (run_terms age) source file
-        (λ p rounds. output.items ≡ output_file p rounds)))) }
-    ensures notes { OnOk result (OfCompiled machine.now.compiled (λ source age. OfFile (D.outside desk.old) image.now
-        (λ file. OfPair (run_terms age) source file
-        (λ p rounds. NotesRun source age p rounds (D.outside desk.old).notes
-        (D.outside desk.new).notes)))) }
-    ensures fault { IfErr result (λ e. OfCompiled machine.now.compiled (λ source age. OfFile (D.outside desk.old) image.now
-        (λ file. IsAnswer (run_terms age) source file e))) }
-    ensures good { OnOk result (OfCompiled machine.now.compiled (λ source age.
-        OfFile (D.outside desk.old) image.now (λ file. IsGoodPair (run_terms age) source file))) }
-    ensures stops { IfErr result Stops }
-    ensures name { IsIfTold (D.outside desk.new).image.name (Some image.now) }
-    ensures only { ReadsAndNotes (D.outside desk.old) (D.outside desk.new) }
-    ensures cause { TellsRead result (D.outside desk.old) (D.outside desk.new) }
+    ensures { ClocksFile machine.now image.now result (D.outside desk.old) (D.outside desk.new) }
 {
     one_at_age_law();
     let rounds = match read_images(alloc, desk, &machine.compiled.ir, image, None) {
