@@ -9,7 +9,7 @@ use dk_desk::Desk;
 use dk_endings::Ending;
 use std::alloc::Global;
 
-// A command with its words. Each does what `Performs` states of a command, fact by fact, and leaves Fault.
+// A command with its words. Each does what `PerformsWork` states of it, and leaves Fault.
 pub trait Work {
     // The command, with its words.
     ghost command: { Self → Command };

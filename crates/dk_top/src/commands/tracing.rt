@@ -1,6 +1,7 @@
 //! `trace`: the run of a module on the images of a file is written as it is made, clock after clock.
 
-ghost use Rattle.std.specs.Prelude.{◌≡◌, None};
+ghost use Rattle.std.specs.Prelude.{◌≡◌, None, Some};
+ghost use Rattle.dk_desk.specs.Calls.{IsIfTold};
 ghost use Rattle.trace_bench.specs.Tracers.{IsTracer};
 ghost use Rattle.dk_top.specs.Command.{trace as trace_command};
 ghost use Rattle.dk_top.specs.Simulating.{CanDrive, LeavesTrace};
@@ -27,8 +28,9 @@ fn write_trace<D: Desk>(
     requires tracer { IsTracer given.now.«module» drive.fill tracer.old }
     requires unheld { drive.hold ≡ None }
     requires driven { CanDrive drive given.now }
-    ensures { OfEnding result (λ e. LeavesTrace drive given.now name.now e (D.outside desk.old)
-        (D.outside desk.new)) }
+    ensures leaves { OfEnding result (λ e. LeavesTrace drive given.now name.now e
+        (D.outside desk.old) (D.outside desk.new)) }
+    ensures name { IsIfTold (D.outside desk.new).file.name (Some name.now) }
 {
     given.module.law();
     let Ok(()) = desk.create(name) else {

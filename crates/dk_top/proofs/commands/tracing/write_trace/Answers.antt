@@ -13,8 +13,8 @@ use Rattle.dk_top.proofs.TraceLemmas.{can_be_traced, trace_stops, stored_run, st
 use Rattle.dk_top.proofs.FileLemmas.{own_created}
 use Rattle.dk_top.proofs.commands.tracing.write_trace.Goals as goal
 
-pub returns-in-Ok-run_trace : goal.returns-in-Ok-run_trace
-returns-in-Ok-run_trace g c =
+pub returns-in-Ok-run_trace-clause-leaves : goal.returns-in-Ok-run_trace-clause-leaves
+returns-in-Ok-run_trace-clause-leaves g c =
     let m = c.args.given.now.module in
     let input = c.args.given.now.input in
     let drive = c.args.drive in
@@ -29,8 +29,8 @@ returns-in-Ok-run_trace g c =
     let own : HasOwnFile new = λ opened. own_run m drive (rounds_of input.rounds.items) mid new (own_created old mid c.in-Ok.ensures.files) runs in
     search (rules, verdict, output, own)
 
-pub returns-in-Err-Stopped : goal.returns-in-Err-Stopped
-returns-in-Err-Stopped g c =
+pub returns-in-Err-Stopped-clause-leaves : goal.returns-in-Err-Stopped-clause-leaves
+returns-in-Err-Stopped-clause-leaves g c =
     let m = c.args.given.now.module in
     let input = c.args.given.now.input in
     let drive = c.args.drive in
@@ -47,8 +47,8 @@ returns-in-Err-Stopped g c =
     let own : HasOwnFile new = λ opened. own_end m drive (rounds_of input.rounds.items) c.in-Err-Stopped.field-0 mid new (own_created old mid c.in-Ok.ensures.files) ends in
     search (rules, verdict, output, own)
 
-pub returns-in-Err-Write : goal.returns-in-Err-Write
-returns-in-Err-Write g c =
+pub returns-in-Err-Write-clause-leaves : goal.returns-in-Err-Write-clause-leaves
+returns-in-Err-Write-clause-leaves g c =
     let m = c.args.given.now.module in
     let input = c.args.given.now.input in
     let drive = c.args.drive in
