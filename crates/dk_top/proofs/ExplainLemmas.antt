@@ -7,6 +7,7 @@ use Rattle.source_fault.specs.declared.fault.SourceFault.TheVariants as source
 use Rattle.dk_compile.specs.Limits.{IsFaultAt}
 use Rattle.dk_endings.specs.declared.ending.Ending.{Ending}
 use Rattle.dk_endings.specs.declared.ending.Ending.TheVariants as ending
+use Rattle.dk_desk.specs.Calls.{IsIfTold, grown}
 use Rattle.dk_types.specs.declared.fault.TypeFault.{TypeFault}
 use Rattle.source_places.specs.Places.{is_line_end, begins_character, last_line, line_of, column_of}
 use Rattle.source_fault.specs.Faults.{word_of}
@@ -20,7 +21,7 @@ use Rattle.dk_top.specs.Explaining.{ExplainsFault}
 use Rattle.dk_top.specs.Refusals.{IsJudgedAs, IsRefusedFor}
 use Rattle.dk_top.proofs.VerdictLemmas.{ApartAt, OneFaultAt}
 use Rattle.dk_top.proofs.PlanLemmas.{program_answer}
-use Rattle.dk_top.proofs.ReportLemmas.{front}
+use Rattle.dk_top.proofs.ReportLemmas.{front, whole}
 
 -- but for a failed write, the answers of `explain` are those of a program
 explained_answer : (text : List ℕ) (e : Ending) → (e ≡ ending.WriteFault → ⊥) → IsExplainAnswer text e → IsProgramAnswer 0 text e
@@ -47,6 +48,17 @@ pub explained_front : (told : Option Files) (name : List ℕ) (r : Refusal) (old
 explained_front None name r old new h written = tt
 explained_front (Some f) name r old new h written =
     front (ExplainsFault name (bytes_of f name)) r.text.items old new (record { fault = r.fault; first = h.0; explained = h.1 }) written
+
+-- otherwise all of it
+pub explained_whole : (told : Option Files) (name : List ℕ) (r : Refusal) (old new : Option (List ℕ)) → IfSome told (λ f. IsJudgedAs name (bytes_of f name) (Refused r)) → IsIfTold new (grown old r.text.items)
+    → IfSome told (λ f. GainsText (IsExplanation name (bytes_of f name) r.fault) old new ending.Done)
+explained_whole None name r old new h written = tt
+explained_whole (Some f) name r old new h written = whole (IsExplanation name (bytes_of f name) r.fault) r.text.items old new h.1 written
+
+-- the program has a fault
+pub explained_faulty : (told : Option Files) (name : List ℕ) (r : Refusal) → IfSome told (λ f. IsJudgedAs name (bytes_of f name) (Refused r)) → IfSome told (λ f. IsExplainAnswer (bytes_of f name) ending.WriteFault)
+explained_faulty None name r h = tt
+explained_faulty (Some f) name r h = (r.fault, h.0)
 
 -- the explanation of a fault of the text
 pub refused_judged : (name text : List ℕ) (fault : SourceFault) (j : Judged) → IsFaultAt text 0 fault → IsRefusedFor name text fault j → IsJudgedAs name text j

@@ -1,5 +1,5 @@
 -- The created file has the bytes of File.
-use Rattle.std.proofs.Common.{◌≡◌, ℕ, Bool, true, false, List, take, Option, None, Some, IfSome, Result, Ok, Err, OnOk, OnErr, refl, sym, ap, ◌∙◌, subst, cond}
+use Rattle.std.proofs.Common.{◌≡◌, ℕ, Bool, true, false, List, take, Option, None, Some, IfSome, refl, sym, ap, ◌∙◌, subst, cond}
 use Rattle.std.specs.Str.{bytes_eq}
 use Rattle.std.specs.Bool.{Decides}
 use Rattle.std.proofs.lemmas.Slice.Eq.{bytes_eq-Decides}
@@ -57,10 +57,6 @@ pub own_front : (mid new : Outside) (bytes : List ℕ) → HoldsFile mid → Wri
 own_front mid new bytes holds front =
     let adds : AddsToFile mid (take front.count bytes) (record new { output_failures = mid.output_failures }) = front.adds in
     own_grown mid new (take front.count bytes) holds (ap (λ (o : Outside). o.file.name) adds.only) adds.grows adds.files
-
-pub own_written : {T E : Type 0} (r : Result T E) (mid new : Outside) (bytes : List ℕ) → HoldsFile mid → OnOk r (AddsToFile mid bytes new) → OnErr r (WritesFront File mid bytes new) → HoldsFile new
-own_written (Ok x) mid new bytes holds adds front = own_added mid new bytes holds adds
-own_written (Err e) mid new bytes holds adds front = own_front mid new bytes holds front
 
 -- nothing is stated of a file that was not created
 pub own_unasked : (new : Outside) → new.file.stage ≡ Unasked → HasOwnFile new

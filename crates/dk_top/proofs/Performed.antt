@@ -8,7 +8,7 @@ use Rattle.dk_top.specs.Command.{Command}
 use Rattle.dk_top.specs.Verdict.{Files}
 use Rattle.dk_top.specs.Reading.{WritesFault}
 use Rattle.dk_top.specs.State.{IsFresh, FilesStay}
-use Rattle.dk_top.specs.Performing.{Performs}
+use Rattle.dk_top.specs.Performing.{Performs, PerformsWork}
 use Rattle.dk_top.proofs.CommandLemmas.{order_stays, words_verdict, words_order, words_report, words_notes, words_begun, words_reads}
 use Rattle.dk_top.proofs.LongLemmas.{words_left}
 use Rattle.dk_top.proofs.FileLemmas.{own_unasked}
@@ -17,7 +17,32 @@ use Rattle.dk_top.proofs.FileLemmas.{own_unasked}
 pub as_named : (o command : Option Command) (e : Ending) (old new : Outside) → o ≡ command → Performs command e old new → Performs o e old new
 as_named o command e old new named h = subst (λ c. Performs c e old new) (sym named) h
 
-same_files : (o : Option Command) (files : Option Files) → FilesStay o files files
+-- of the words of a command
+pub of_work : (c : Command) (e : Ending) (old new : Outside) → PerformsWork c e old new → Performs (Some c) e old new
+of_work c e old new h = record {
+  usage = λ is. absurd (h.taken is);
+  not_taken = λ none. absurd (let f : ⊥ = cc in f);
+  verdict = h.verdict;
+  read_fault = h.read_fault;
+  write_fault = h.write_fault;
+  asked = h.asked;
+  order = h.order;
+  too_long = h.too_long;
+  created = h.created;
+  begun = h.begun;
+  reads = h.reads;
+  written = h.written;
+  output = h.output;
+  files = h.files;
+  files_stay = h.files_stay;
+  own = h.own;
+  report = h.report;
+  report_stays = h.report_stays;
+  notes = h.notes;
+  notes_stay = h.notes_stay;
+}
+
+pub same_files : (o : Option Command) (files : Option Files) → FilesStay o files files
 same_files o None = tt
 same_files o (Some f) = λ name other. refl
 

@@ -31,7 +31,8 @@ use Rattle.dk_base.specs.declared.TheConstants.{MAX_PGM_BYTES, MAX_VERILOG_BYTES
 use Rattle.dk_endings.specs.Verilog.{fault_told}
 use Rattle.dk_top.specs.Simulation.{of_text, drive_of, IsModuleOf, IsVerilogFault, FitsModule, IsSimulated, IsStopped}
 use Rattle.dk_top.specs.Verdict.{Files, bytes_of, IsSimAnswer}
-use Rattle.dk_top.specs.State.{NotesSim}
+use Rattle.dk_top.specs.State.{NotesSim, IsNoted}
+use Rattle.dk_top.specs.Command.{sim}
 use Rattle.dk_top.specs.Reading.{IsUnread, Stops}
 use Rattle.dk_top.specs.Tracing.{trace_drive, IsTraceAnswer}
 use Rattle.dk_top.specs.Simulating.{IsFileEnding, IsInputEnding, IsSimInput}
@@ -200,3 +201,17 @@ stored_sim (Some f) verilog image d drive m size rounds None file R e given only
 stored_sim (Some f) verilog image d drive m size rounds (Some b) file R e given only written = λ pictures is.
     let same : pictures ≡ file = only (bytes_of f verilog) (bytes_of f image) (subst (λ (x : Drive). IsSimInput x.hold (bytes_of f verilog) (bytes_of f image) m size rounds) (sym e) given) pictures (subst (λ x. IsSimulated x (bytes_of f verilog) (bytes_of f image) pictures) (sym e) is) in
     subst (R b) (sym same) written
+
+-- nothing is stated of the notes where the run stops
+pub sim_notes : (verilog : List ℕ) (clocks : ℕ) (image out : List ℕ) (power : PowerUp) (hold : Option ℕ) (e : Ending) → Stops e → (f : Files) (old new : Option (List (Bool × ℕ))) → IsNoted (sim verilog clocks image out power hold) e f old new
+sim_notes v c i o p h ending.Done stops f old new = absurd stops
+sim_notes v c i o p h ending.Usage stops f old new = tt
+sim_notes v c i o p h (ending.Source x) stops f old new = tt
+sim_notes v c i o p h (ending.Image x) stops f old new = tt
+sim_notes v c i o p h (ending.Verilog x) stops f old new = tt
+sim_notes v c i o p h (ending.Stopped x) stops f old new = tt
+sim_notes v c i o p h (ending.Rejected x) stops f old new = tt
+sim_notes v c i o p h (ending.Unable x) stops f old new = tt
+sim_notes v c i o p h ending.ReadFault stops f old new = tt
+sim_notes v c i o p h ending.WriteFault stops f old new = tt
+sim_notes v c i o p h ending.Memory stops f old new = tt

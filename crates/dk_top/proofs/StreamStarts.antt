@@ -28,8 +28,7 @@ use Rattle.netlist.specs.Names.{NamedNetlist}
 use Rattle.buffer_plan.specs.Plans.{latency}
 use Rattle.dk_desk.specs.Outside.{Outside}
 use Rattle.dk_endings.specs.declared.ending.Ending.{Ending}
-use Rattle.dk_endings.specs.declared.ending.Ending.TheVariants as ends
-use Rattle.dk_top.specs.Streams.{RunsStream, refused, streamed, StreamEnds}
+use Rattle.dk_top.specs.Streams.{RunsStream}
 use Rattle.dk_compile.specs.declared.compiling.Compiled.{Compiled}
 use Rattle.dk_top.specs.Compiling.{IsCompiledFrom}
 use Rattle.dk_top.specs.Streaming.{IsOnePort, first_bits, output_kind}
@@ -196,8 +195,3 @@ module _ (source : List ℕ) (age : ℕ) (c : Compiled) (from : IsCompiledFrom s
         (subst (λ x. RunsStream (output_kind q) again.netlist x l image out stored old new result) (din_is w is)
         (subst (λ (x : Netlist). RunsStream (output_kind q) x w l image out stored old new result) nets
         (subst (λ (x : Kind). RunsStream x n w l image out stored old new result) kinds h))))
-
--- a stream never ends out of memory: all was allocated before it
-pub no_memory : (kind : Kind) (m : Netlist) (bits late : ℕ) (image out : List ℕ) (from : Contents) (old now : Outside) (result : Ending) → RunsStream kind m bits late image out from old now result → result ≡ ends.Memory → ⊥
-no_memory kind m bits late image out from old now result (refused is only stage named) e = cc
-no_memory kind m bits late image out from old now result (streamed opened opens left) e = subst (λ (r : Ending). StreamEnds kind m bits late out from opened now r) e left

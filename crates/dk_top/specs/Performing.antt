@@ -1,6 +1,6 @@
 -- What a call of the program does, fact by fact. `command` is the command that its words name, if any, `e` is how the call ends, and `old` and
 -- `new` are what is outside before it and after it. The line to Fault is stated apart.
-use Rattle.std.specs.Prelude.{◌≡◌, ◌≢◌, Option, None, IfSome}
+use Rattle.std.specs.Prelude.{◌≡◌, ◌≢◌, Option, None, Some, IfSome, Result, MatchResult}
 use Rattle.dk_desk.specs.declared.Stage.TheVariants.{Unasked, Open}
 use Rattle.dk_desk.specs.Outside.{Outside}
 use Rattle.dk_desk.specs.Calls.{HasCauseIn}
@@ -95,3 +95,31 @@ pub record Performs (command : Option Command) (e : Ending) (old new : Outside) 
   pub report_stays : ReportStays command e old new
   pub notes : HasNoted command e old new
   pub notes_stay : NotesStay command old new
+
+-- what holds of the ending of a result: it is Done, or the error
+abbrev pub OfEnding : {A : Type 0} → Result A Ending → (Ending → Type 0) → Type 0
+OfEnding result P = MatchResult result (λ _. P ending.Done) P
+
+-- All of it, of the words of a command. Fault stays.
+pub record PerformsWork (c : Command) (e : Ending) (old new : Outside) : Type 0 where
+  pub taken : e ≢ ending.Usage
+  pub verdict : EndsRight (Some c) e old
+  pub read_fault : ReportsRead e old new
+  pub write_fault : ReportsWrite e old new
+  pub asked : AsksOnly (Some c) new
+  pub order : AsksAfter (Some c) old new
+  pub too_long : LeavesRestOf (Some c) e old new
+  pub created : CreatesLast (Some c) e new
+  pub begun : HasCreated (Some c) e old new
+  pub reads : HasRead (Some c) e old new
+  pub written : HasWritten (Some c) e new
+  pub output : HasStored (Some c) e old new
+  pub files : FilesStay (Some c) old.files new.files
+  pub files_stay : AllStay old new
+  pub own : HasOwnFile new
+  pub report : HasReported (Some c) e old new
+  pub report_stays : ReportStays (Some c) e old new
+  pub notes : HasNoted (Some c) e old new
+  pub notes_stay : NotesStay (Some c) old new
+  pub fault : new.fault ≡ old.fault
+  pub fault_count : new.fault_failures ≡ old.fault_failures

@@ -1,5 +1,6 @@
 -- How the images of a program with one input and one output are streamed, for the private functions.
-use Rattle.std.specs.Prelude.{◌≡◌, ◌≢◌, ℕ, List, false, None, Some, IfSome}
+use Rattle.std.specs.Prelude.{◌≡◌, ◌≢◌, ℕ, List, false, None, Some, IfSome, Vec, Result, IfOk, IfErr, OnOk}
+use Rattle.std.specs.declared.alloc.Global.{Global}
 use Rattle.dk_desk.specs.declared.InSlot.TheVariants.{Image as ImageSlot}
 use Rattle.dk_desk.specs.declared.Stage.TheVariants.{Unasked, Refused, Open}
 use Rattle.dk_desk.specs.Outside.{Outside}
@@ -7,24 +8,24 @@ use Rattle.dk_desk.specs.Calls.{IsIfTold, HasCauseIn, OpensOnly}
 use Rattle.wiring.specs.Netlist.{Netlist}
 use Rattle.wiring.specs.Snapshot.{Contents}
 use Rattle.row_stream.specs.declared.faults.StreamFault.TheVariants.{Image as ImageFails, Read, Write}
+use Rattle.row_stream.specs.declared.state.Stream.{Stream}
+use Rattle.row_stream.specs.Formats.{kind_of}
 use Rattle.row_stream.specs.Lines.{Kind}
 use Rattle.row_stream.specs.Whole.{LeavesAll, Leaves}
 use Rattle.dk_endings.specs.declared.ending.Ending.{Ending}
 use Rattle.dk_endings.specs.declared.ending.Ending.TheVariants as ending
 use Rattle.dk_endings.specs.declared.ending.ImageFault.TheVariants as image
-use Rattle.dk_top.specs.Verdict.{bytes_of, IsRunAnswer}
-use Rattle.dk_types.specs.Typed.{Typing}
-use Rattle.buffer_plan.specs.Plans.{Plan, latency}
-use Rattle.cycle_sim.specs.declared.fill.Fill.TheVariants.{Zeros}
-use Rattle.cycle_sim.specs.Filled.{filled_contents}
-use Rattle.dk_top.specs.Streaming.{ReadsRun, output_kind, first_bits}
+use Rattle.dk_top.specs.Output.{output_file}
+use Rattle.dk_top.specs.Verdict.{bytes_of, run_terms, IsRunAnswer, IsAnswer, IsGoodPair, OfPair}
+use Rattle.dk_top.specs.Streaming.{ReadsRun}
 use Rattle.pgm_rounds.specs.declared.round.Round.{Round}
 use Rattle.dk_compile.specs.declared.compiling.Compiled.{Compiled}
-use Rattle.dk_top.specs.Compiling.{IsCompiledFrom}
-use Rattle.dk_top.specs.Reading.{IsInputOf}
+use Rattle.dk_top.specs.Compiling.{IsCompiledFrom, NotesRun}
+use Rattle.dk_top.specs.Reading.{IsInputOf, OfFile, NotesOnly, ReadsAndNotes, Stops, TellsRead}
 use Rattle.dk_top.specs.Command.{run}
-use Rattle.dk_compile.specs.Limits.{IsAcceptedAt}
-use Rattle.dk_top.specs.State.{AsksOnly, AsksWhere, CreatesNothing, CreatesOut, OthersStay, HasOwnFile, CreatesRun, IsStoredRun, NotedRun}
+use Rattle.dk_top.specs.State.{CreatesNothing, OthersStay, HasOwnFile, CreatesRun, IsStoredRun, NotedRun}
+use Rattle.dk_top.specs.Performing.{ReportsRead, ReportsWrite}
+use Rattle.dk_top.specs.declared.commands.running.Machine.{Machine}
 
 -- what the stream leaves, by the ending
 abbrev pub StreamEnds : Kind → Netlist → (bits latency : ℕ) → (name : List ℕ) → Contents → (opened now : Outside) → Ending → Type 0
@@ -50,27 +51,10 @@ pub data RunsStream (kind : Kind) (m : Netlist) (bits late : ℕ) (image out : L
   streamed : (opened : Outside) → OpensImages image old opened → StreamEnds kind m bits late out from opened now result
       → RunsStream kind m bits late image out from old now result
 
--- The images of a program with one input and one output are streamed through its module, from zeros.
-abbrev pub StreamsFrom : Typing → Plan → Netlist → (image out : List ℕ) → (old now : Outside) → Ending → Type 0
-StreamsFrom p plan m image out old now result = RunsStream (output_kind p) m (first_bits p) (latency plan) image out (filled_contents Zeros m) old now result
-
 -- the images were read, clocks were noted, File was written, and nothing else was changed
 abbrev pub StreamsOnly : (old new : Outside) → Type 0
 StreamsOnly old new =
     new ≡ record old {
-      image = new.image;
-      file = new.file;
-      files = new.files;
-      notes = new.notes;
-      input_failures = new.input_failures;
-      output_failures = new.output_failures;
-    }
-
--- the same, and the program was read
-abbrev pub RunsOnly : (old new : Outside) → Type 0
-RunsOnly old new =
-    new ≡ record old {
-      program = new.program;
       image = new.image;
       file = new.file;
       files = new.files;
@@ -98,26 +82,6 @@ pub record RunsOn (source : List ℕ) (age : ℕ) (image out : List ℕ) (result
   pub read_fault : HasCauseIn (result ≡ ending.ReadFault) old.input_failures new.input_failures
   pub write_fault : HasCauseIn (result ≡ ending.WriteFault) old.output_failures new.output_failures
 
--- What the whole of `run` does.
-pub record PerformsRun (program image out : List ℕ) (age : ℕ) (result : Ending) (old new : Outside) : Type 0 where
-  pub taken : result ≢ ending.Usage
-  pub verdict : IfSome old.files (λ files. IsRunAnswer age (bytes_of files program) (bytes_of files image) result)
-  pub asked : AsksOnly (Some (run program image out age)) new
-  pub order : IfSome old.files (λ files. AsksWhere (IsAcceptedAt (bytes_of files program) age) new)
-  pub created : CreatesNothing (Some (run program image out age)) result → new.file.stage ≡ Unasked
-  pub begun : IfSome old.files (λ files. CreatesRun age (bytes_of files program) (bytes_of files image) result new.file.stage)
-  pub reads : IfSome old.files (λ files. ReadsRun result age (bytes_of files program) (bytes_of files image) new.image new.file.stage)
-  pub written : result ≡ ending.Done → CreatesOut (Some (run program image out age)) new
-  pub output : new.file.stage ≡ Open
-      → IfSome old.files (λ files. IfSome new.file.bytes (IsStoredRun result age (bytes_of files program) (bytes_of files image) new.image.rest))
-  pub notes : IfSome old.files (λ files. NotedRun result age (bytes_of files program) (bytes_of files image) old.notes new.notes)
-  pub files : OthersStay out old.files new.files
-  pub files_stay : new.file.stage ≢ Open → new.files ≡ old.files
-  pub own : HasOwnFile new
-  pub only : RunsOnly old new
-  pub read_fault : HasCauseIn (result ≡ ending.ReadFault) old.input_failures new.input_failures
-  pub write_fault : HasCauseIn (result ≡ ending.WriteFault) old.output_failures new.output_failures
-
 -- what holds of each text and age that this is compiled from
 abbrev pub OfCompiled : Compiled → (List ℕ → ℕ → Type 0) → Type 0
 OfCompiled c P = (source : List ℕ) (age : ℕ) → IsCompiledFrom source age false None c → P source age
@@ -125,3 +89,40 @@ OfCompiled c P = (source : List ℕ) (age : ℕ) → IsCompiledFrom source age f
 -- what holds of each text, file and age from which this is compiled and these rounds are read
 abbrev pub OfRun : Compiled → List Round → (List ℕ → List ℕ → ℕ → Type 0) → Type 0
 OfRun c rounds P = (source file : List ℕ) (age : ℕ) → IsCompiledFrom source age false None c → IsInputOf None c.ir file rounds → P source file age
+
+-- The program is compiled from some text at some age, and the module is that of its Verilog text.
+pub record IsMachine (m : Machine) : Type 0 where
+  pub compiled : (source : List ℕ) × (age : ℕ) × IsCompiledFrom source age false None m.compiled
+  pub again : m.«module» ≡ m.compiled.«module»
+
+-- the images were not requested, and nothing was created
+pub record AwaitsImages (o : Outside) : Type 0 where
+  pub image : o.image.stage ≡ Unasked
+  pub file : o.file.stage ≡ Unasked
+
+-- The images were streamed, or could not be opened, and the ending tells whether a read or a write failed.
+pub record StreamsImages (stream : Stream) (late : ℕ) (image out : List ℕ) (result : Ending) (old new : Outside) : Type 0 where
+  pub runs : RunsStream (kind_of stream.format) stream.sim.netlist stream.bits late image out stream.sim.contents old new result
+  pub read : ReportsRead result old new
+  pub write : ReportsWrite result old new
+
+-- what `run` does with a machine, of each text and age that it is compiled from
+abbrev pub RunsMachine : Machine → (image out : List ℕ) → Ending → (old new : Outside) → Type 0
+RunsMachine m image out result old new = OfCompiled m.compiled (λ source age. RunsOn source age image out result old new)
+
+-- The file of the pictures that a machine shows of these rounds, clocked from zeros, and what its run notes. Nothing else is changed.
+pub record ClocksRounds {E : Type 0} (m : Machine) (rounds : List Round) (result : Result (Vec ℕ Global) E) (old new : Outside) : Type 0 where
+  pub only : NotesOnly old new
+  pub output : IfOk result (λ output. OfRun m.compiled rounds (λ source file age. OfPair (run_terms age) source file (λ p images. output.items ≡ output_file p images)))
+  pub notes : OnOk result (OfRun m.compiled rounds (λ source file age. OfPair (run_terms age) source file (λ p images. NotesRun source age p images old.notes new.notes)))
+
+-- The same of the rounds of the file of this name, or why there is no such file: the ending is right for the file, and the images were read.
+pub record ClocksFile (m : Machine) (image : List ℕ) (result : Result (Vec ℕ Global) Ending) (old new : Outside) : Type 0 where
+  pub output : IfOk result (λ output. OfCompiled m.compiled (λ source age. OfFile old image (λ file. OfPair (run_terms age) source file (λ p images. output.items ≡ output_file p images))))
+  pub notes : OnOk result (OfCompiled m.compiled (λ source age. OfFile old image (λ file. OfPair (run_terms age) source file (λ p images. NotesRun source age p images old.notes new.notes))))
+  pub fault : IfErr result (λ e. OfCompiled m.compiled (λ source age. OfFile old image (λ file. IsAnswer (run_terms age) source file e)))
+  pub good : OnOk result (OfCompiled m.compiled (λ source age. OfFile old image (λ file. IsGoodPair (run_terms age) source file)))
+  pub stops : IfErr result Stops
+  pub name : IsIfTold new.image.name (Some image)
+  pub only : ReadsAndNotes old new
+  pub cause : TellsRead result old new

@@ -1,14 +1,14 @@
 //! Inputs that are read whole, and outputs that are written whole.
 
-ghost use Rattle.std.specs.Prelude.{◌≡◌, ◌≢◌, ◌<◌, ◌≤◌, Some, Err, IfOk, IfErr, IfSome, OnOk, OnErr, IsErr, length, vec_len};
+ghost use Rattle.std.specs.Prelude.{◌≡◌, ◌≢◌, ◌<◌, ◌≤◌, Some, Err, IfOk, IfErr, IfSome, length, vec_len};
 ghost use Rattle.dk_desk.specs.Outside.{input};
-ghost use Rattle.dk_desk.specs.Calls.{HasCauseIn, IsIfTold, OpensOnly, CreatesOnly, grown};
-ghost use Rattle.dk_top.specs.State.{IsPrefix, OthersStay, HasOwnFile, ReportsFront, LeavesRest};
-ghost use Rattle.dk_top.specs.Reading.{unread_by, WritesReport, OfFile, IsUnread, Stops, TellsNoText, TellsRead};
-ghost use Rattle.dk_top.specs.Performing.{AllStay};
+ghost use Rattle.dk_desk.specs.Calls.{HasCauseIn, IsIfTold, OpensOnly};
+ghost use Rattle.dk_top.specs.State.{LeavesRest};
+ghost use Rattle.dk_top.specs.Reading.{unread_by, OfFile, IsUnread, Stops, TellsNoText, TellsRead};
+ghost use Rattle.dk_top.specs.Writing.{WritesFile, WritesReportOf};
 
 use dk_desk::transfer::{ReadAll, read_all, read_upto, write_all};
-use dk_desk::{Desk, Failed, InSlot, OutSlot, Stage};
+use dk_desk::{Desk, InSlot, OutSlot, Stage};
 use dk_endings::{Ending, ImageFault};
 use std::alloc::Global;
 
@@ -72,36 +72,27 @@ fn read_to_end<D: Desk>(
 }
 
 // Begins the output and writes it whole.
-pub fn write_file<D: Desk>(desk: &mut D, name: &str, bytes: &[u8]) -> Result<(), Failed>
+pub fn write_file<D: Desk>(desk: &mut D, name: &str, bytes: &[u8]) -> Result<(), Ending>
     requires { (D.outside desk.old).file.stage ≡ Stage.Unasked }
-    ensures whole { OnOk result (IfSome (D.outside desk.new).file.bytes
-        (λ written. written ≡ bytes.now)) }
-    ensures prefix { OnErr result ((D.outside desk.new).file.stage ≡ Stage.Open
-        → IfSome (D.outside desk.new).file.bytes (λ written. IsPrefix written bytes.now)) }
-    ensures opened { OnOk result ((D.outside desk.new).file.stage ≡ Stage.Open) }
-    ensures name { IsIfTold (D.outside desk.new).file.name (Some name.now) }
-    ensures files { OthersStay name.now (D.outside desk.old).files (D.outside desk.new).files }
-    ensures files_stay { AllStay (D.outside desk.old) (D.outside desk.new) }
-    ensures own { HasOwnFile (D.outside desk.new) }
-    ensures only { CreatesOnly (D.outside desk.old) (D.outside desk.new) }
-    ensures cause { HasCauseIn (IsErr result) (D.outside desk.old).output_failures
-        (D.outside desk.new).output_failures }
+    ensures { WritesFile name.now bytes.now result (D.outside desk.old) (D.outside desk.new) }
 {
-    desk.create(name)?;
-    write_all(desk, OutSlot::File, bytes)
+    let Ok(()) = desk.create(name) else {
+        return Err(Ending::WriteFault);
+    };
+    match write_all(desk, OutSlot::File, bytes) {
+        Ok(()) => Ok(()),
+        Err(_) => Err(Ending::WriteFault),
+    }
 }
 
 // Writes a text to Report.
-pub fn write_report<D: Desk>(desk: &mut D, text: &[u8]) -> Result<(), Failed>
-    ensures whole { OnOk result (IsIfTold (D.outside desk.new).report (grown
-        (D.outside desk.old).report text.now)) }
-    ensures front { OnErr result (ReportsFront text.now (D.outside desk.old).report
-        (D.outside desk.new).report) }
-    ensures only { WritesReport (D.outside desk.old) (D.outside desk.new) }
-    ensures cause { HasCauseIn (IsErr result) (D.outside desk.old).output_failures
-        (D.outside desk.new).output_failures }
+pub fn write_report<D: Desk>(desk: &mut D, text: &[u8]) -> Result<(), Ending>
+    ensures { WritesReportOf text.now result (D.outside desk.old) (D.outside desk.new) }
 {
-    write_all(desk, OutSlot::Report, text)
+    match write_all(desk, OutSlot::Report, text) {
+        Ok(()) => Ok(()),
+        Err(_) => Err(Ending::WriteFault),
+    }
 }
 
 // The bytes of the file of images, which may have `most` bytes or any number.

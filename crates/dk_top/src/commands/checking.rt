@@ -168,14 +168,9 @@ fn read_claim<D: Desk>(
 impl Work for CheckWords<'_> {
     ghost command = { λ words. check_command words.program.now words.report.now };
 
-    fn perform<D: Desk>(&self, alloc: Global, desk: &mut D) -> Ending {
-        let claim = match read_claim(alloc, desk, self.program, self.report) {
-            Ok(claim) => claim,
-            Err(ending) => return ending,
-        };
-        match write_report(desk, holds_line(claim.bits, claim.latency).as_bytes()) {
-            Ok(()) => Ending::Done,
-            Err(_) => Ending::WriteFault,
-        }
+    fn perform<D: Desk>(&self, alloc: Global, desk: &mut D) -> Result<(), Ending> {
+        let claim = read_claim(alloc, desk, self.program, self.report)?;
+        write_report(desk, holds_line(claim.bits, claim.latency).as_bytes())?;
+        Ok(())
     }
 }

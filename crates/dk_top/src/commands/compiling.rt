@@ -102,14 +102,9 @@ impl OfText for CompileWords<'_> {
 impl Work for CompileWords<'_> {
     ghost command = { λ words. compile_command words.program.now words.out.now words.enable words.age words.block };
 
-    fn perform<D: Desk>(&self, alloc: Global, desk: &mut D) -> Ending {
-        let text = match read_with(alloc, desk, self.program, self) {
-            Ok(text) => text,
-            Err(ending) => return ending,
-        };
-        match write_file(desk, self.out, &text) {
-            Ok(()) => Ending::Done,
-            Err(_) => Ending::WriteFault,
-        }
+    fn perform<D: Desk>(&self, alloc: Global, desk: &mut D) -> Result<(), Ending> {
+        let text = read_with(alloc, desk, self.program, self)?;
+        write_file(desk, self.out, &text)?;
+        Ok(())
     }
 }

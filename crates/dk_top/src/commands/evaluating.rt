@@ -103,17 +103,12 @@ fn evaluated(alloc: Global, given: &Given) -> Result<Vec<u8>, OutOfMemory>
 impl Work for FileNames<'_> {
     ghost command = { λ files. eval_command files.program.now files.image.now files.out.now };
 
-    fn perform<D: Desk>(&self, alloc: Global, desk: &mut D) -> Ending {
-        let given = match read_given(alloc, desk, self) {
-            Ok(given) => given,
-            Err(ending) => return ending,
-        };
+    fn perform<D: Desk>(&self, alloc: Global, desk: &mut D) -> Result<(), Ending> {
+        let given = read_given(alloc, desk, self)?;
         let Ok(output) = evaluated(alloc, &given) else {
-            return Ending::Memory;
+            return Err(Ending::Memory);
         };
-        match write_file(desk, self.out, &output) {
-            Ok(()) => Ending::Done,
-            Err(_) => Ending::WriteFault,
-        }
+        write_file(desk, self.out, &output)?;
+        Ok(())
     }
 }

@@ -81,14 +81,11 @@ fn read_judged<D: Desk>(alloc: Global, desk: &mut D, name: &str) -> Result<Judge
 impl Work for ExplainWords<'_> {
     ghost command = { λ words. explain_command words.program.now };
 
-    fn perform<D: Desk>(&self, alloc: Global, desk: &mut D) -> Ending {
-        match read_judged(alloc, desk, self.program) {
-            Err(ending) => ending,
-            Ok(Judged::Accepted) => Ending::Done,
-            Ok(Judged::Refused(refusal)) => match write_report(desk, &refusal.text) {
-                Ok(()) => Ending::Source(refusal.fault),
-                Err(_) => Ending::WriteFault,
-            },
-        }
+    fn perform<D: Desk>(&self, alloc: Global, desk: &mut D) -> Result<(), Ending> {
+        let Judged::Refused(refusal) = read_judged(alloc, desk, self.program)? else {
+            return Ok(());
+        };
+        write_report(desk, &refusal.text)?;
+        Err(Ending::Source(refusal.fault))
     }
 }

@@ -63,14 +63,9 @@ impl OfText for NetsWords<'_> {
 impl Work for NetsWords<'_> {
     ghost command = { λ words. nets_command words.program.now words.enable words.age words.block };
 
-    fn perform<D: Desk>(&self, alloc: Global, desk: &mut D) -> Ending {
-        let lines = match read_with(alloc, desk, self.program, self) {
-            Ok(lines) => lines,
-            Err(ending) => return ending,
-        };
-        match write_report(desk, &lines) {
-            Ok(()) => Ending::Done,
-            Err(_) => Ending::WriteFault,
-        }
+    fn perform<D: Desk>(&self, alloc: Global, desk: &mut D) -> Result<(), Ending> {
+        let lines = read_with(alloc, desk, self.program, self)?;
+        write_report(desk, &lines)?;
+        Ok(())
     }
 }

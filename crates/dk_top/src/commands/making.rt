@@ -12,7 +12,7 @@ ghost use Rattle.dk_top.specs.Making.{IsMade, IsMadeLine, NotesMade};
 ghost use Rattle.dk_top.specs.Reading.{AreRead, IsInputOf, IsSourceEnding, Stops, NotesOnly};
 
 use crate::commands::compiling::compiled;
-use crate::commands::running::{clocked, read_again};
+use crate::commands::running::{Machine, clocked, read_again};
 use crate::files::write_report;
 use crate::reading::read_frames;
 use crate::work::Work;
@@ -22,7 +22,6 @@ use dk_desk::Desk;
 use dk_endings::Ending;
 use dk_words::MakeWords;
 use made_program::{Figures, made_is_read_law, make, sample_sum, summary};
-use netlist::Module;
 use pgm_codec::one_reading_law;
 use pgm_rounds::Round;
 use pointwise_ir::meaning_law;
@@ -31,17 +30,16 @@ use std::alloc::Global;
 // What `make` works on: what the program is compiled to, the module of its Verilog text, and the frames of the rounds.
 #[derive(Drop)]
 struct Ready {
-    compiled: Compiled,
-    module: Module,
+    machine: Machine,
     rounds: Vec<Round>,
 }
 
 // The program of a number, compiled, and the frames of its image.
 fn made_ready(alloc: Global, n: u32) -> Result<Ready, Ending>
-    ensures compiled { IfOk result (λ r. IsCompiledFrom (program_of n) 0 false None r.compiled) }
-    ensures again { IfOk result (λ r. r.«module» ≡ r.compiled.«module») }
-    ensures input { IfOk result (λ r. IsInputOf None r.compiled.ir (image_of n) r.rounds.items) }
-    ensures read { IfOk result (λ r. AreRead r.compiled.ir r.rounds.items) }
+    ensures compiled { IfOk result (λ r. IsCompiledFrom (program_of n) 0 false None r.machine.compiled) }
+    ensures again { IfOk result (λ r. r.machine.«module» ≡ r.machine.compiled.«module») }
+    ensures input { IfOk result (λ r. IsInputOf None r.machine.compiled.ir (image_of n) r.rounds.items) }
+    ensures read { IfOk result (λ r. AreRead r.machine.compiled.ir r.rounds.items) }
     ensures good { OnOk result (CanBeCompiled (program_of n) 0) }
     ensures fault { IfErr result (IsSourceEnding (IsFaultAt (program_of n) 0)) }
     ensures stops { IfErr result Stops }
@@ -61,8 +59,7 @@ fn made_ready(alloc: Global, n: u32) -> Result<Ready, Ending>
     };
     match read_frames(alloc, &compiled.ir, &made.image) {
         Ok(rounds) => Ok(Ready {
-            compiled,
-            module,
+            machine: Machine { compiled, module },
             rounds,
         }),
         // That a made image fits its program is tested and not proved; otherwise the call would end here.
@@ -103,10 +100,10 @@ fn made_line<D: Desk>(alloc: Global, desk: &mut D, n: u32) -> Result<Vec<u8>, En
 {
     one_at_age_law();
     let ready = made_ready(alloc, n)?;
-    let Ok(file) = clocked(alloc, desk, &ready.compiled, &ready.module, &ready.rounds) else {
+    let Ok(file) = clocked(alloc, desk, &ready.machine, &ready.rounds) else {
         return Err(Ending::Memory);
     };
-    match line_of(alloc, n, &ready.compiled, &file) {
+    match line_of(alloc, n, &ready.machine.compiled, &file) {
         Ok(line) => Ok(line),
         Err(_) => Err(Ending::Memory),
     }
@@ -116,14 +113,9 @@ fn made_line<D: Desk>(alloc: Global, desk: &mut D, n: u32) -> Result<Vec<u8>, En
 impl Work for MakeWords {
     ghost command = { λ words. make_command words.number };
 
-    fn perform<D: Desk>(&self, alloc: Global, desk: &mut D) -> Ending {
-        let line = match made_line(alloc, desk, self.number) {
-            Ok(line) => line,
-            Err(ending) => return ending,
-        };
-        match write_report(desk, &line) {
-            Ok(()) => Ending::Done,
-            Err(_) => Ending::WriteFault,
-        }
+    fn perform<D: Desk>(&self, alloc: Global, desk: &mut D) -> Result<(), Ending> {
+        let line = made_line(alloc, desk, self.number)?;
+        write_report(desk, &line)?;
+        Ok(())
     }
 }

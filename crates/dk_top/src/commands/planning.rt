@@ -59,14 +59,9 @@ impl OfText for PlanWords<'_> {
 impl Work for PlanWords<'_> {
     ghost command = { λ words. plan_command words.program.now words.age };
 
-    fn perform<D: Desk>(&self, alloc: Global, desk: &mut D) -> Ending {
-        let report = match read_with(alloc, desk, self.program, self) {
-            Ok(report) => report,
-            Err(ending) => return ending,
-        };
-        match write_report(desk, &report) {
-            Ok(()) => Ending::Done,
-            Err(_) => Ending::WriteFault,
-        }
+    fn perform<D: Desk>(&self, alloc: Global, desk: &mut D) -> Result<(), Ending> {
+        let report = read_with(alloc, desk, self.program, self)?;
+        write_report(desk, &report)?;
+        Ok(())
     }
 }

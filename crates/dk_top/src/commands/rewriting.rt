@@ -1,23 +1,21 @@
 //! `cut`, `narrow` and `widen`: other programs with the same pictures.
 
-ghost use Rattle.std.specs.Prelude.{◌≡◌, ◌≢◌, ◌⊎◌, Some, Err, IfOk, IfErr, IfSome, OnOk, OnErr, IsErr};
-ghost use Rattle.dk_desk.specs.Calls.{HasCauseIn, IsIfTold, grown};
+ghost use Rattle.std.specs.Prelude.{◌≡◌, ◌≢◌, Err, IfOk, IfErr, OnOk};
 ghost use Rattle.dk_words.specs.declared.command.Rewriting.TheVariants.{Widen};
 ghost use Rattle.dk_compile.specs.Widened.{IsWidenErrorBy};
 ghost use Rattle.dk_top.specs.Command.{rewrite as rewrite_command, IsRewriting};
 ghost use Rattle.dk_top.specs.Verdict.{CanBeRewritten};
 ghost use Rattle.dk_top.specs.Rewriting.{IsRewriteOf, AreRewriteLines};
-ghost use Rattle.dk_top.specs.Reading.{Stops, IsRewriteEnding, WritesBoth, EndsInLine};
+ghost use Rattle.dk_top.specs.Reading.{Stops, IsRewriteEnding};
 ghost use Rattle.dk_top.specs.Unread.{unread_rewrite};
-ghost use Rattle.dk_top.specs.State.{IsPrefix, OthersStay, HasOwnFile};
-ghost use Rattle.dk_top.specs.Performing.{AllStay};
+ghost use Rattle.dk_top.specs.Writing.{WritesLines};
 
 use crate::files::{write_file, write_report};
 use crate::of_text::{OfText, read_with};
 use crate::reading::ending_of;
 use crate::work::Work;
 use dk_compile::{Rewritten, WidenError, cut_reported, narrow_reported, widen_reported};
-use dk_desk::{Desk, Failed, Stage};
+use dk_desk::{Desk, Stage};
 use dk_endings::Ending;
 use dk_words::{RewriteWords, Rewriting};
 use std::alloc::Global;
@@ -82,41 +80,23 @@ impl OfText for RewriteWords<'_> {
 }
 
 // Writes a text to File, and then lines to Report.
-fn write_both<D: Desk>(desk: &mut D, name: &str, text: &[u8], line: &[u8]) -> Result<(), Failed>
+fn write_both<D: Desk>(desk: &mut D, name: &str, text: &[u8], lines: &[u8]) -> Result<(), Ending>
     requires { (D.outside desk.old).file.stage ≡ Stage.Unasked }
-    ensures whole { OnOk result (IfSome (D.outside desk.new).file.bytes
-        (λ written. written ≡ text.now)) }
-    ensures prefix { OnErr result ((D.outside desk.new).file.stage ≡ Stage.Open
-        → IfSome (D.outside desk.new).file.bytes (λ written. IsPrefix written text.now)) }
-    ensures line { OnOk result (IsIfTold (D.outside desk.new).report (grown
-        (D.outside desk.old).report line.now)) }
-    ensures front { OnErr result (((D.outside desk.new).report ≡ (D.outside desk.old).report)
-        ⊎ EndsInLine text.now line.now (D.outside desk.old) (D.outside desk.new)) }
-    ensures opened { OnOk result ((D.outside desk.new).file.stage ≡ Stage.Open) }
-    ensures name { IsIfTold (D.outside desk.new).file.name (Some name.now) }
-    ensures files { OthersStay name.now (D.outside desk.old).files (D.outside desk.new).files }
-    ensures files_stay { AllStay (D.outside desk.old) (D.outside desk.new) }
-    ensures own { HasOwnFile (D.outside desk.new) }
-    ensures only { WritesBoth (D.outside desk.old) (D.outside desk.new) }
-    ensures cause { HasCauseIn (IsErr result) (D.outside desk.old).output_failures
-        (D.outside desk.new).output_failures }
+    ensures { WritesLines name.now text.now lines.now result (D.outside desk.old)
+        (D.outside desk.new) }
 {
     write_file(desk, name, text)?;
-    write_report(desk, line)
+    write_report(desk, lines)?;
+    Ok(())
 }
 
 /// Rewrites the program, writes its text to File once the text is whole, and then its lines to Report.
 impl Work for RewriteWords<'_> {
     ghost command = { λ words. rewrite_command words.how words.program.now words.out.now };
 
-    fn perform<D: Desk>(&self, alloc: Global, desk: &mut D) -> Ending {
-        let rewritten = match read_with(alloc, desk, self.program, self) {
-            Ok(rewritten) => rewritten,
-            Err(ending) => return ending,
-        };
-        match write_both(desk, self.out, &rewritten.text, &rewritten.lines) {
-            Ok(()) => Ending::Done,
-            Err(_) => Ending::WriteFault,
-        }
+    fn perform<D: Desk>(&self, alloc: Global, desk: &mut D) -> Result<(), Ending> {
+        let rewritten = read_with(alloc, desk, self.program, self)?;
+        write_both(desk, self.out, &rewritten.text, &rewritten.lines)?;
+        Ok(())
     }
 }

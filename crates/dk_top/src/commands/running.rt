@@ -1,19 +1,18 @@
 //! `run`: the circuit of a program is clocked on a file of images.
 
-ghost use Rattle.std.specs.Prelude.{◌≡◌, ◌≤◌, ℕ, List, false, None, Some, Err, IfOk, IfErr, OnOk};
+ghost use Rattle.std.specs.Prelude.{◌≡◌, ◌≤◌, ℕ, List, false, None, Some, IfOk, IfErr};
 ghost use Rattle.dk_base.specs.declared.TheConstants.{MAX_AGE};
 ghost use Rattle.dk_desk.specs.Calls.{IsIfTold, OpensOnly};
 ghost use Rattle.dk_top.specs.Command.{run as run_command};
 ghost use Rattle.dk_compile.specs.Limits.{IsFaultAt};
-ghost use Rattle.dk_top.specs.Output.{output_file};
-ghost use Rattle.dk_top.specs.Compiling.{IsCompiledFrom, NotesRun};
-ghost use Rattle.dk_top.specs.Verdict.{run_terms, IsAnswer, IsGoodPair, OfPair};
-ghost use Rattle.dk_top.specs.State.{IsFresh, LeavesText};
+ghost use Rattle.dk_top.specs.Compiling.{IsCompiledFrom};
+ghost use Rattle.dk_top.specs.State.{LeavesText};
 ghost use Rattle.dk_top.specs.Streaming.{IsOnePort};
-ghost use Rattle.dk_top.specs.Streams.{OfRun, OfCompiled, RunsOn, PerformsRun};
+ghost use Rattle.dk_top.specs.Performing.{OfEnding};
+ghost use Rattle.dk_top.specs.Streams.{AwaitsImages, ClocksFile, ClocksRounds, IsMachine, RunsMachine};
 ghost use Rattle.dk_types.specs.Typed.{Typing};
 ghost use Rattle.dk_compile.specs.Fronts.{IsForm};
-ghost use Rattle.dk_top.specs.Reading.{ReadsAndNotes, OfFile, AreRead, IsSourceEnding, Stops, TellsRead, NotesOnly};
+ghost use Rattle.dk_top.specs.Reading.{OfFile, AreRead, IsSourceEnding, Stops, TellsRead};
 
 use crate::commands::compiling::read_compiled;
 use crate::commands::streaming::run_streamed;
@@ -44,45 +43,37 @@ pub fn read_again(alloc: Global, compiled: &Compiled) -> Result<Module, OutOfMem
     }
 }
 
+// The program, compiled, and the module that its Verilog text denotes.
+#[derive(Drop)]
+pub struct Machine {
+    pub compiled: Compiled,
+    pub module: Module,
+}
+
 // The file of the pictures that the module of a program shows, clocked over all rounds.
 pub fn clocked<D: Desk>(
     alloc: Global,
     desk: &mut D,
-    compiled: &Compiled,
-    module: &Module,
+    machine: &Machine,
     rounds: &[Round],
 ) -> Result<Vec<u8>, OutOfMemory>
-    requires compiled { (source : List ℕ) × (age : ℕ)
-        × IsCompiledFrom source age false None compiled.now }
-    requires again { «module».now ≡ compiled.now.«module» }
-    requires read { AreRead compiled.now.ir rounds.now }
-    ensures only { NotesOnly (D.outside desk.old) (D.outside desk.new) }
-    ensures output { IfOk result (λ output. OfRun compiled.now rounds.now
-        (λ source file age. OfPair (run_terms age) source file
-        (λ p rounds. output.items ≡ output_file p rounds))) }
-    ensures notes { OnOk result (OfRun compiled.now rounds.now (λ source file age. OfPair (run_terms age) source file
-        (λ p rounds. NotesRun source age p rounds (D.outside desk.old).notes
-        (D.outside desk.new).notes))) }
+    requires machine { IsMachine machine.now }
+    requires read { AreRead machine.now.compiled.ir rounds.now }
+    ensures { ClocksRounds machine.now rounds.now result (D.outside desk.old)
+        (D.outside desk.new) }
 {
     one_source_law();
     drive_shows_law();
     notes_agree_law();
-    compiled.ir.law();
-    compiled.plan.law();
-    let size = compiled.ir.size();
-    let drive = frame_drive(size, compiled.plan.latency(), rounds.len());
-    match run_bench(alloc, desk, module, drive, size, rounds) {
+    machine.compiled.ir.law();
+    machine.compiled.plan.law();
+    let size = machine.compiled.ir.size();
+    let drive = frame_drive(size, machine.compiled.plan.latency(), rounds.len());
+    match run_bench(alloc, desk, &machine.module, drive, size, rounds) {
         Ok(file) => Ok(file),
         Err(BenchFault::Stopped(_)) => unreachable!(),
         Err(BenchFault::OutOfMemory) => Err(AllocError),
     }
-}
-
-// The program, compiled, and the module that its Verilog text denotes.
-#[derive(Drop)]
-struct Machine {
-    compiled: Compiled,
-    module: Module,
 }
 
 // Reads, judges and compiles the program, and reads its Verilog text again.
@@ -128,37 +119,19 @@ fn read_machine<D: Desk>(
 fn ran<D: Desk>(
     alloc: Global,
     desk: &mut D,
-    compiled: &Compiled,
-    module: &Module,
+    machine: &Machine,
     image: &str,
 ) -> Result<Vec<u8>, Ending>
-    requires compiled { (source : List ℕ) × (age : ℕ)
-        × IsCompiledFrom source age false None compiled.now }
-    requires again { «module».now ≡ compiled.now.«module» }
-    requires image { (D.outside desk.old).image.stage ≡ Stage.Unasked }
-    requires file { (D.outside desk.old).file.stage ≡ Stage.Unasked }
-    ensures output { IfOk result (λ output. OfCompiled compiled.now (λ source age. OfFile (D.outside desk.old) image.now
-        (λ file. OfPair (run_terms age) source file
-        (λ p rounds. output.items ≡ output_file p rounds)))) }
-    ensures notes { OnOk result (OfCompiled compiled.now (λ source age. OfFile (D.outside desk.old) image.now
-        (λ file. OfPair (run_terms age) source file
-        (λ p rounds. NotesRun source age p rounds (D.outside desk.old).notes
-        (D.outside desk.new).notes)))) }
-    ensures fault { IfErr result (λ e. OfCompiled compiled.now (λ source age. OfFile (D.outside desk.old) image.now
-        (λ file. IsAnswer (run_terms age) source file e))) }
-    ensures good { OnOk result (OfCompiled compiled.now (λ source age.
-        OfFile (D.outside desk.old) image.now (λ file. IsGoodPair (run_terms age) source file))) }
-    ensures stops { IfErr result Stops }
-    ensures name { IsIfTold (D.outside desk.new).image.name (Some image.now) }
-    ensures only { ReadsAndNotes (D.outside desk.old) (D.outside desk.new) }
-    ensures cause { TellsRead result (D.outside desk.old) (D.outside desk.new) }
+    requires machine { IsMachine machine.now }
+    requires awaits { AwaitsImages (D.outside desk.old) }
+    ensures { ClocksFile machine.now image.now result (D.outside desk.old) (D.outside desk.new) }
 {
     one_at_age_law();
-    let rounds = match read_images(alloc, desk, &compiled.ir, image, None) {
+    let rounds = match read_images(alloc, desk, &machine.compiled.ir, image, None) {
         Ok(rounds) => rounds,
         Err(ending) => return Err(ending),
     };
-    match clocked(alloc, desk, compiled, module, &rounds) {
+    match clocked(alloc, desk, machine, &rounds) {
         Ok(output) => Ok(output),
         Err(_) => Err(Ending::Memory),
     }
@@ -168,67 +141,35 @@ fn ran<D: Desk>(
 fn run_rounds<D: Desk>(
     alloc: Global,
     desk: &mut D,
-    compiled: &Compiled,
-    module: &Module,
+    machine: &Machine,
     image: &str,
     out: &str,
-) -> Ending
-    requires compiled { (source : List ℕ) × (age : ℕ)
-        × IsCompiledFrom source age false None compiled.now }
-    requires again { «module».now ≡ compiled.now.«module» }
-    requires several { (p : Typing) → IsForm p compiled.now.ir → IsOnePort p → ⊥ }
-    requires image { (D.outside desk.old).image.stage ≡ Stage.Unasked }
-    requires file { (D.outside desk.old).file.stage ≡ Stage.Unasked }
-    ensures runs { OfCompiled compiled.now
-        (λ source age. RunsOn source age image.now out.now result (D.outside desk.old)
+) -> Result<(), Ending>
+    requires machine { IsMachine machine.now }
+    requires several { (p : Typing) → IsForm p machine.now.compiled.ir → IsOnePort p → ⊥ }
+    requires awaits { AwaitsImages (D.outside desk.old) }
+    ensures { OfEnding result (λ e. RunsMachine machine.now image.now out.now e (D.outside desk.old)
         (D.outside desk.new)) }
 {
     one_source_law();
     one_at_age_law();
-    let output = match ran(alloc, desk, compiled, module, image) {
-        Ok(output) => output,
-        Err(ending) => return ending,
-    };
-    match write_file(desk, out, &output) {
-        Ok(()) => Ending::Done,
-        Err(_) => Ending::WriteFault,
-    }
+    let output = ran(alloc, desk, machine, image)?;
+    write_file(desk, out, &output)?;
+    Ok(())
 }
 
-// Compiles the program, and clocks its module on the images.
-fn run_program<D: Desk>(
-    alloc: Global,
-    desk: &mut D,
-    program: &str,
-    image: &str,
-    out: &str,
-    age: u8,
-) -> Ending
-    requires fresh { IsFresh (D.outside desk.old) }
-    requires age { age ≤ MAX_AGE }
-    ensures performs { PerformsRun program.now image.now out.now age result (D.outside desk.old)
-        (D.outside desk.new) }
-    ensures left { OfFile (D.outside desk.old) program.now
-        (λ source. LeavesText result source (D.outside desk.new).program) }
-{
-    one_source_law();
-    one_at_age_law();
-    let Machine { compiled, module } = match read_machine(alloc, desk, program, age) {
-        Ok(machine) => machine,
-        Err(ending) => return ending,
-    };
-    if is_one_port(&compiled.ir) {
-        run_streamed(alloc, desk, &compiled, &module, image, out)
-    } else {
-        run_rounds(alloc, desk, &compiled, &module, image, out)
-    }
-}
-
-/// Clocks the program's circuit on the images, and writes the pictures that it shows.
+/// Compiles the program, clocks its circuit on the images, and writes the pictures that it shows.
 impl Work for RunWords<'_> {
     ghost command = { λ words. run_command words.program.now words.image.now words.out.now words.age };
 
-    fn perform<D: Desk>(&self, alloc: Global, desk: &mut D) -> Ending {
-        run_program(alloc, desk, self.program, self.image, self.out, self.age)
+    fn perform<D: Desk>(&self, alloc: Global, desk: &mut D) -> Result<(), Ending> {
+        one_source_law();
+        one_at_age_law();
+        let machine = read_machine(alloc, desk, self.program, self.age)?;
+        if is_one_port(&machine.compiled.ir) {
+            run_streamed(alloc, desk, &machine, self.image, self.out)
+        } else {
+            run_rounds(alloc, desk, &machine, self.image, self.out)
+        }
     }
 }

@@ -1,6 +1,6 @@
 //! `sim`: any Verilog text of the subset is clocked on the images of a file. `trace` reads the same files.
 
-ghost use Rattle.std.specs.Prelude.{◌≡◌, ◌≢◌, ◌≤◌, ◌<◌, ◌^◌, ℕ, List, Some, Err, IfOk, IfErr, IfSome, OnOk, length};
+ghost use Rattle.std.specs.Prelude.{◌≡◌, ◌≢◌, ◌≤◌, ◌<◌, ◌^◌, ℕ, List, Some, Err, IfOk, IfErr, IfSome, length};
 ghost use Rattle.dk_base.specs.Frames.{IsFrame};
 ghost use Rattle.dk_base.specs.FrameSizes.{size_of};
 ghost use Rattle.dk_desk.specs.Calls.{IsIfTold, OpensOnly};
@@ -8,11 +8,10 @@ ghost use Rattle.cycle_sim.specs.Ports.{din_widths};
 ghost use Rattle.stimulus.specs.Given.{AreBenchFrames};
 ghost use Rattle.dk_words.specs.declared.command.PowerUp.{PowerUp as OnePower};
 ghost use Rattle.dk_top.specs.Command.{sim as sim_command};
-ghost use Rattle.dk_top.specs.Simulation.{drive_of, fill_of as fill_named, IsModuleOf, IsSimulated};
-ghost use Rattle.dk_top.specs.Verdict.{IsSimAnswer};
-ghost use Rattle.dk_top.specs.State.{AsksWhereModule, NotesSim, LeavesText, LeavesImages};
-ghost use Rattle.dk_top.specs.Simulating.{OfInput, IsModuleEnding, IsFileEnding, IsInput, IsInputEnding, IsSimInput};
-ghost use Rattle.dk_top.specs.Reading.{LeavesInputs, ReadsInputs, OfFiles, OfFile, Stops, TellsNoText, TellsNoImages, TellsRead, NotesOnly, IsNamed};
+ghost use Rattle.dk_top.specs.Simulation.{drive_of, fill_of as fill_named, IsModuleOf};
+ghost use Rattle.dk_top.specs.State.{AsksWhereModule, LeavesText, LeavesImages};
+ghost use Rattle.dk_top.specs.Simulating.{IsModuleEnding, IsFileEnding, IsInput, IsInputEnding, IsSimInput, CanDrive, ShowsPictures};
+ghost use Rattle.dk_top.specs.Reading.{LeavesInputs, ReadsInputs, OfFiles, OfFile, Stops, TellsNoText, TellsNoImages, TellsRead, IsNamed};
 
 use crate::files::{read_file, read_input, unread, write_file};
 use crate::work::Work;
@@ -201,24 +200,9 @@ fn pictures<D: Desk>(
     drive: Drive,
 ) -> Result<Vec<u8>, Ending>
     requires hold { IfSome drive.hold (λ count. 0 < count) }
-    requires clocks { drive.clocks < 2 ^ 60 }
     requires frame { IsFrame given.now.input.size.width given.now.input.size.height }
-    requires frames { AreBenchFrames (din_widths given.now.«module».netlist) (size_of given.now.input.size) given.now.input.rounds.items }
-    ensures only { NotesOnly (D.outside desk.old) (D.outside desk.new) }
-    ensures file { IfOk result (λ file. OfInput drive.hold given.now
-        (λ text images. IsSimulated drive text images file.items)) }
-    ensures only_file { IfOk result (λ file. OfInput drive.hold given.now
-        (λ text images. (pictures : List ℕ) → IsSimulated drive text images pictures → pictures
-        ≡ file.items)) }
-    ensures notes { OnOk result (OfInput drive.hold given.now
-        (λ text images. NotesSim drive text images (D.outside desk.old).notes
-        (D.outside desk.new).notes)) }
-    ensures fault { IfErr result (λ e. OfInput drive.hold given.now
-        (λ text images. IsSimAnswer drive text images e)) }
-    ensures stops { IfErr result Stops }
-    ensures no_text { IfErr result TellsNoText }
-    ensures no_images { IfErr result TellsNoImages }
-    ensures judged { result ≢ Err Ending.ReadFault }
+    requires driven { CanDrive drive given.now }
+    ensures { ShowsPictures drive given.now result (D.outside desk.old) (D.outside desk.new) }
 {
     verilog_text::one_module_law();
     stimulus::one_input_law();
@@ -242,19 +226,11 @@ fn pictures<D: Desk>(
 impl Work for SimWords<'_> {
     ghost command = { λ words. sim_command words.verilog.now words.clocks words.image.now words.out.now words.fill words.hold };
 
-    fn perform<D: Desk>(&self, alloc: Global, desk: &mut D) -> Ending {
-        let given = match read_all(alloc, desk, self.verilog, self.image, self.hold) {
-            Ok(given) => given,
-            Err(ending) => return ending,
-        };
+    fn perform<D: Desk>(&self, alloc: Global, desk: &mut D) -> Result<(), Ending> {
+        let given = read_all(alloc, desk, self.verilog, self.image, self.hold)?;
         let drive = drive_for(self.clocks, self.fill, self.hold);
-        let output = match pictures(alloc, desk, &given, drive) {
-            Ok(output) => output,
-            Err(ending) => return ending,
-        };
-        match write_file(desk, self.out, &output) {
-            Ok(()) => Ending::Done,
-            Err(_) => Ending::WriteFault,
-        }
+        let output = pictures(alloc, desk, &given, drive)?;
+        write_file(desk, self.out, &output)?;
+        Ok(())
     }
 }

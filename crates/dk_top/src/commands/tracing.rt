@@ -1,17 +1,11 @@
 //! `trace`: the run of a module on the images of a file is written as it is made, clock after clock.
 
-ghost use Rattle.std.specs.Prelude.{◌≡◌, ◌≢◌, ◌<◌, ◌^◌, ℕ, List, Some, None, IfSome};
-ghost use Rattle.dk_base.specs.FrameSizes.{size_of};
-ghost use Rattle.dk_desk.specs.Calls.{IsIfTold, CreatesOnly};
-ghost use Rattle.cycle_sim.specs.Ports.{din_widths};
-ghost use Rattle.stimulus.specs.Given.{AreBenchFrames};
+ghost use Rattle.std.specs.Prelude.{◌≡◌, None, Some};
+ghost use Rattle.dk_desk.specs.Calls.{IsIfTold};
 ghost use Rattle.trace_bench.specs.Tracers.{IsTracer};
 ghost use Rattle.dk_top.specs.Command.{trace as trace_command};
-ghost use Rattle.dk_top.specs.Tracing.{IsTraceAnswer, IsStoredTrace};
-ghost use Rattle.dk_top.specs.State.{CreatesNothing, CreatesTrace, OthersStay, HasOwnFile};
-ghost use Rattle.dk_top.specs.Simulating.{OfInput};
-ghost use Rattle.dk_top.specs.Reading.{TellsNoText, TellsNoImages};
-ghost use Rattle.dk_top.specs.Performing.{ReportsWrite, AllStay};
+ghost use Rattle.dk_top.specs.Simulating.{CanDrive, LeavesTrace};
+ghost use Rattle.dk_top.specs.Performing.{OfEnding};
 
 use crate::commands::simulating::{SimInput, drive_for, read_all};
 use crate::work::Work;
@@ -29,38 +23,19 @@ fn write_trace<D: Desk>(
     tracer: &mut Tracer,
     drive: Drive,
     name: &str,
-) -> Ending
+) -> Result<(), Ending>
     requires fresh { (D.outside desk.old).file.stage ≡ Stage.Unasked }
     requires tracer { IsTracer given.now.«module» drive.fill tracer.old }
     requires unheld { drive.hold ≡ None }
-    requires clocks { drive.clocks < 2 ^ 60 }
-    requires frames { AreBenchFrames (din_widths given.now.«module».netlist) (size_of given.now.input.size) given.now.input.rounds.items }
-    ensures verdict { OfInput drive.hold given.now
-        (λ text images. IsTraceAnswer drive text images result) }
-    ensures output { (D.outside desk.new).file.stage ≡ Stage.Open → IfSome (D.outside desk.new).file.bytes
-        (λ bytes. OfInput drive.hold given.now
-        (λ text images. IsStoredTrace result drive text images bytes)) }
-    ensures taken { result ≢ Ending.Usage }
-    ensures judged { result ≢ Ending.ReadFault }
-    ensures no_text { TellsNoText result }
-    ensures no_images { TellsNoImages result }
-    ensures created { (verilog image vcd : List ℕ) (clocks : ℕ)
-        → CreatesNothing (Some (trace_command verilog clocks image vcd)) result
-        → (D.outside desk.new).file.stage ≡ Stage.Unasked }
-    ensures begun { CreatesTrace result (D.outside desk.new).file.stage }
-    ensures written { result ≡ Ending.Done → (D.outside desk.new).file.stage ≡ Stage.Open }
+    requires driven { CanDrive drive given.now }
+    ensures leaves { OfEnding result (λ e. LeavesTrace drive given.now name.now e
+        (D.outside desk.old) (D.outside desk.new)) }
     ensures name { IsIfTold (D.outside desk.new).file.name (Some name.now) }
-    ensures files { OthersStay name.now (D.outside desk.old).files (D.outside desk.new).files }
-    ensures files_stay { AllStay (D.outside desk.old) (D.outside desk.new) }
-    ensures own { HasOwnFile (D.outside desk.new) }
-    ensures only { CreatesOnly (D.outside desk.old) (D.outside desk.new) }
-    ensures cause { ReportsWrite result (D.outside desk.old) (D.outside desk.new) }
 {
     given.module.law();
-    match desk.create(name) {
-        Ok(()) => {}
-        Err(_) => return Ending::WriteFault,
-    }
+    let Ok(()) = desk.create(name) else {
+        return Err(Ending::WriteFault);
+    };
     let input = &given.input;
     match run_trace(
         desk,
@@ -70,9 +45,9 @@ fn write_trace<D: Desk>(
         input.size,
         &input.rounds,
     ) {
-        Ok(()) => Ending::Done,
-        Err(TraceEnd::Stopped(stop)) => Ending::Stopped(stop),
-        Err(TraceEnd::Write) => Ending::WriteFault,
+        Ok(()) => Ok(()),
+        Err(TraceEnd::Stopped(stop)) => Err(Ending::Stopped(stop)),
+        Err(TraceEnd::Write) => Err(Ending::WriteFault),
     }
 }
 
@@ -83,36 +58,16 @@ fn traced<D: Desk>(
     given: &SimInput,
     drive: Drive,
     name: &str,
-) -> Ending
+) -> Result<(), Ending>
     requires fresh { (D.outside desk.old).file.stage ≡ Stage.Unasked }
     requires unheld { drive.hold ≡ None }
-    requires clocks { drive.clocks < 2 ^ 60 }
-    requires frames { AreBenchFrames (din_widths given.now.«module».netlist) (size_of given.now.input.size) given.now.input.rounds.items }
-    ensures verdict { OfInput drive.hold given.now
-        (λ text images. IsTraceAnswer drive text images result) }
-    ensures output { (D.outside desk.new).file.stage ≡ Stage.Open → IfSome (D.outside desk.new).file.bytes
-        (λ bytes. OfInput drive.hold given.now
-        (λ text images. IsStoredTrace result drive text images bytes)) }
-    ensures taken { result ≢ Ending.Usage }
-    ensures judged { result ≢ Ending.ReadFault }
-    ensures no_text { TellsNoText result }
-    ensures no_images { TellsNoImages result }
-    ensures created { (verilog image vcd : List ℕ) (clocks : ℕ)
-        → CreatesNothing (Some (trace_command verilog clocks image vcd)) result
-        → (D.outside desk.new).file.stage ≡ Stage.Unasked }
-    ensures begun { CreatesTrace result (D.outside desk.new).file.stage }
-    ensures written { result ≡ Ending.Done → (D.outside desk.new).file.stage ≡ Stage.Open }
-    ensures name { (D.outside desk.new).file.stage ≢ Stage.Unasked
-        → IsIfTold (D.outside desk.new).file.name (Some name.now) }
-    ensures files { OthersStay name.now (D.outside desk.old).files (D.outside desk.new).files }
-    ensures files_stay { AllStay (D.outside desk.old) (D.outside desk.new) }
-    ensures own { HasOwnFile (D.outside desk.new) }
-    ensures only { CreatesOnly (D.outside desk.old) (D.outside desk.new) }
-    ensures cause { ReportsWrite result (D.outside desk.old) (D.outside desk.new) }
+    requires driven { CanDrive drive given.now }
+    ensures { OfEnding result (λ e. LeavesTrace drive given.now name.now e (D.outside desk.old)
+        (D.outside desk.new)) }
 {
     match Tracer::new(alloc, &given.module, drive.fill) {
         Ok(mut tracer) => write_trace(desk, given, &mut tracer, drive, name),
-        Err(_) => Ending::Memory,
+        Err(_) => Err(Ending::Memory),
     }
 }
 
@@ -120,11 +75,8 @@ fn traced<D: Desk>(
 impl Work for TraceWords<'_> {
     ghost command = { λ words. trace_command words.verilog.now words.clocks words.image.now words.vcd.now };
 
-    fn perform<D: Desk>(&self, alloc: Global, desk: &mut D) -> Ending {
-        let given = match read_all(alloc, desk, self.verilog, self.image, None) {
-            Ok(given) => given,
-            Err(ending) => return ending,
-        };
+    fn perform<D: Desk>(&self, alloc: Global, desk: &mut D) -> Result<(), Ending> {
+        let given = read_all(alloc, desk, self.verilog, self.image, None)?;
         let drive = drive_for(self.clocks, PowerUp::Zeros, None);
         traced(alloc, desk, &given, drive, self.vcd)
     }

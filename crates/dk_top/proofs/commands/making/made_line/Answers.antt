@@ -10,7 +10,7 @@ use Rattle.dk_top.proofs.commands.making.made_line.Goals as goal
 pub line_of-requires : goal.line_of-requires
 line_of-requires g c =
     let n = c.args.n in
-    let k = c.in_ok-ready.ready.compiled in
+    let k = c.in_ok-ready.ready.machine.compiled in
     let rounds = c.in_ok-ready.ready.rounds.items in
     let given = subst (λ (rs : List Round). IsInputOf None k.ir (image_of n) rs) (sym c.deref.ensures.value) c.in_ok-ready.ensures.input in
     let made = made_file c.one_at_age_law.ensures.accepted n k c.in_ok-ready.ensures.compiled rounds c.in_ok-ready.ensures.input c.in-Ok.file.items (c.in-Ok.ensures.output (program_of n) (image_of n) 0 c.in_ok-ready.ensures.compiled given) in
@@ -21,7 +21,7 @@ line_of-requires g c =
 pub returns-in-Ok-line_of-clause-notes : goal.returns-in-Ok-line_of-clause-notes
 returns-in-Ok-line_of-clause-notes g c =
     let n = c.args.n in
-    let k = c.in_ok-ready.ready.compiled in
+    let k = c.in_ok-ready.ready.machine.compiled in
     let rounds = c.in_ok-ready.ready.rounds.items in
     let given = subst (λ (rs : List Round). IsInputOf None k.ir (image_of n) rs) (sym c.deref.ensures.value) c.in_ok-ready.ensures.input in
     made_notes c.one_at_age_law.ensures.accepted n k c.in_ok-ready.ensures.compiled rounds c.in_ok-ready.ensures.input _ _ (c.in-Ok.ensures.notes (program_of n) (image_of n) 0 c.in_ok-ready.ensures.compiled given)

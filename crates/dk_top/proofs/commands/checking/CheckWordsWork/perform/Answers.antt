@@ -1,23 +1,82 @@
-use Rattle.std.proofs.Common.{◌≡◌, ap, subst, ◌∙◌}
+use Rattle.std.proofs.Common.{◌≡◌, Some, ap, subst, ◌∙◌, rules}
 use Rattle.dk_desk.specs.Calls.{IsIfTold, grown}
 use Rattle.dk_desk.specs.Outside.{Outside}
 use Rattle.dk_endings.specs.Lines.{holds_line}
+use Rattle.dk_endings.specs.declared.ending.Ending.TheVariants as ending
+use Rattle.dk_top.specs.Command.{check as check_command}
 use Rattle.dk_top.specs.State.{ReportsFront}
+use Rattle.dk_top.specs.Performing.{PerformsWork, HasReported}
+use Rattle.dk_top.proofs.EndingLemmas.{at_fault}
 use Rattle.dk_top.proofs.ReportLemmas.{claim_whole, claim_front}
+use Rattle.dk_top.proofs.CommandLemmas.{order_stays}
 use Rattle.dk_top.proofs.commands.checking.CheckWordsWork.perform.Goals as goal
 
-pub returns-in-Ok-write_report-clause-report : goal.returns-in-Ok-write_report-clause-report
-returns-in-Ok-write_report-clause-report g c =
+pub returns-in_err-write_report : goal.returns-in_err-write_report
+returns-in_err-write_report g c =
     let outside = g.D.Desk.outside in
-    let before : (outside c.read_claim.new.desk).report ≡ (outside c.args.desk.now).report = ap (λ (o : Outside). o.report) c.in-Ok.ensures.only in
-    let line : c.as_bytes.result.now ≡ holds_line c.in-Ok.claim.bits c.in-Ok.claim.latency = c.as_bytes.ensures.value ∙ (c.deref.ensures.0 ∙ c.holds_line.ensures) in
-    claim_whole _ c.args.self.now.program.now c.args.self.now.report.now c.in-Ok.claim c.as_bytes.result.now _ _ c.in-Ok.ensures.holds line
-    (subst (λ r. IsIfTold (outside c.write_report.new.desk).report (grown r c.as_bytes.result.now)) before c.in-Ok-write_report.ensures.whole)
+    let w = c.args.self.now in
+    let old : Outside = outside c.args.desk.now in
+    let new : Outside = outside c.write_report.new.desk in
+    let before : (outside c.read_claim.new.desk).report ≡ old.report = ap (λ (o : Outside). o.report) c.in_ok-claim.ensures.only in
+    let line : c.as_bytes.result.now ≡ holds_line c.in_ok-claim.claim.bits c.in_ok-claim.claim.latency = c.as_bytes.ensures.value ∙ (c.deref.ensures.0 ∙ c.holds_line.ensures) in
+    let report : HasReported (Some (check_command w.program.now w.report.now)) ending.WriteFault old new =
+    claim_front _ w.program.now w.report.now c.in_ok-claim.claim c.as_bytes.result.now _ _ c.in_ok-claim.ensures.holds line
+    (subst (λ r. ReportsFront c.as_bytes.result.now r new.report) before c.in_err-write_report.ensures.front) in
+    at_fault (λ e. PerformsWork (check_command w.program.now w.report.now) e old new) c.from_residual-in_err-write_report.result c.in_err-write_report.field-0.0 c.from_residual-in_err-write_report.ensures.1 c.in_err-write_report.ensures.fault (record {
+      taken = search rules;
+      verdict = search rules;
+      read_fault = search rules;
+      write_fault = search rules;
+      asked = search rules;
+      order = order_stays (Some (check_command w.program.now w.report.now)) old.files (outside c.read_claim.new.desk) new (ap (λ (o : Outside). o.image) c.write_report.ensures.only) c.in_ok-claim.ensures.order;
+      too_long = search rules;
+      created = search rules;
+      begun = search rules;
+      reads = search rules;
+      written = search rules;
+      output = search rules;
+      files = search rules;
+      files_stay = search rules;
+      own = search rules;
+      report = report;
+      report_stays = search rules;
+      notes = search rules;
+      notes_stay = search rules;
+      fault = search rules;
+      fault_count = search rules;
+    })
 
-pub returns-in-Err-write_report-clause-report : goal.returns-in-Err-write_report-clause-report
-returns-in-Err-write_report-clause-report g c =
+pub returns : goal.returns
+returns g c =
     let outside = g.D.Desk.outside in
-    let before : (outside c.read_claim.new.desk).report ≡ (outside c.args.desk.now).report = ap (λ (o : Outside). o.report) c.in-Ok.ensures.only in
-    let line : c.as_bytes.result.now ≡ holds_line c.in-Ok.claim.bits c.in-Ok.claim.latency = c.as_bytes.ensures.value ∙ (c.deref.ensures.0 ∙ c.holds_line.ensures) in
-    claim_front _ c.args.self.now.program.now c.args.self.now.report.now c.in-Ok.claim c.as_bytes.result.now _ _ c.in-Ok.ensures.holds line
-    (subst (λ r. ReportsFront c.as_bytes.result.now r (outside c.write_report.new.desk).report) before c.in-Err-write_report.ensures.front)
+    let w = c.args.self.now in
+    let old : Outside = outside c.args.desk.now in
+    let new : Outside = outside c.write_report.new.desk in
+    let before : (outside c.read_claim.new.desk).report ≡ old.report = ap (λ (o : Outside). o.report) c.in_ok-claim.ensures.only in
+    let line : c.as_bytes.result.now ≡ holds_line c.in_ok-claim.claim.bits c.in_ok-claim.claim.latency = c.as_bytes.ensures.value ∙ (c.deref.ensures.0 ∙ c.holds_line.ensures) in
+    let report : HasReported (Some (check_command w.program.now w.report.now)) ending.Done old new =
+    claim_whole _ w.program.now w.report.now c.in_ok-claim.claim c.as_bytes.result.now _ _ c.in_ok-claim.ensures.holds line
+    (subst (λ r. IsIfTold new.report (grown r c.as_bytes.result.now)) before c.in_ok-write_report.ensures.whole) in
+    record {
+      taken = search rules;
+      verdict = search rules;
+      read_fault = search rules;
+      write_fault = search rules;
+      asked = search rules;
+      order = order_stays (Some (check_command w.program.now w.report.now)) old.files (outside c.read_claim.new.desk) new (ap (λ (o : Outside). o.image) c.write_report.ensures.only) c.in_ok-claim.ensures.order;
+      too_long = search rules;
+      created = search rules;
+      begun = search rules;
+      reads = search rules;
+      written = search rules;
+      output = search rules;
+      files = search rules;
+      files_stay = search rules;
+      own = search rules;
+      report = report;
+      report_stays = search rules;
+      notes = search rules;
+      notes_stay = search rules;
+      fault = search rules;
+      fault_count = search rules;
+    }

@@ -1,18 +1,22 @@
-use Rattle.std.proofs.Common.{◌≡◌, List, ℕ, subst, IfSome}
+use Rattle.std.proofs.Common.{Some, subst, IfSome, rules}
+use Rattle.dk_desk.specs.Outside.{Outside}
 use Rattle.dk_endings.specs.declared.ending.Ending.TheVariants as ending
+use Rattle.dk_top.specs.Command.{compile as compile_command}
 use Rattle.dk_top.specs.State.{IsPrefix}
+use Rattle.dk_top.specs.Performing.{PerformsWork, HasStored}
+use Rattle.dk_top.proofs.EndingLemmas.{at_fault}
 use Rattle.dk_top.proofs.CompileLemmas.{text_stored, block_low}
 use Rattle.dk_top.proofs.commands.compiling.CompileWordsWork.perform.Goals as goal
 
-pub returns-in-Ok-write_file-clause-output : goal.returns-in-Ok-write_file-clause-output
-returns-in-Ok-write_file-clause-output g c = λ opened.
-    text_stored _ c.args.self.now.program.now c.args.self.now.age c.args.self.now.enable c.args.self.now.block c.in-Ok.text.items _ ending.Done c.in-Ok.ensures.made
-    (subst (λ (bytes : List ℕ). IfSome (g.D.Desk.outside c.write_file.new.desk).file.bytes (λ written. written ≡ bytes)) c.deref.ensures.value c.in-Ok-write_file.ensures.whole)
-
-pub returns-clause-output : goal.returns-clause-output
-returns-clause-output g c = λ opened.
-    text_stored _ c.args.self.now.program.now c.args.self.now.age c.args.self.now.enable c.args.self.now.block c.in-Ok.text.items _ ending.WriteFault c.in-Ok.ensures.made
-    (subst (λ (bytes : List ℕ). IfSome (g.D.Desk.outside c.write_file.new.desk).file.bytes (λ written. IsPrefix written bytes)) c.deref.ensures.value (c.in-Err-write_file.ensures.prefix opened))
+pub returns-in_err-write_file : goal.returns-in_err-write_file
+returns-in_err-write_file g c =
+    let w = c.args.self.now in
+    let old : Outside = g.D.Desk.outside c.args.desk.now in
+    let new : Outside = g.D.Desk.outside c.write_file.new.desk in
+    let output : HasStored (Some (compile_command w.program.now w.out.now w.enable w.age w.block)) ending.WriteFault old new = λ opened.
+    text_stored _ w.program.now w.age w.enable w.block c.in_ok-text.text.items _ ending.WriteFault c.in_ok-text.ensures.made
+    (subst (λ bytes. IfSome new.file.bytes (λ written. IsPrefix written bytes)) c.deref.ensures.value (c.in_err-write_file.ensures.prefix opened)) in
+    at_fault (λ e. PerformsWork (compile_command w.program.now w.out.now w.enable w.age w.block) e old new) c.from_residual-in_err-write_file.result c.in_err-write_file.field-0.0 c.from_residual-in_err-write_file.ensures.1 c.in_err-write_file.ensures.fault (search (rules, output))
 
 pub read_with-requires-clause-ranges : goal.read_with-requires-clause-ranges
 read_with-requires-clause-ranges g c = (c.requires.ranges.0, block_low c.args.self.now.block c.requires.ranges.1)

@@ -1,29 +1,69 @@
-use Rattle.std.proofs.Common.{◌≡◌, ◌∙◌, ap, subst, IfSome}
+use Rattle.std.proofs.Common.{◌≡◌, Some, subst, IfSome, rules}
 use Rattle.dk_desk.specs.Outside.{Outside}
+use Rattle.dk_endings.specs.declared.ending.Ending.TheVariants as ending
+use Rattle.dk_top.specs.Command.{eval as eval_command}
 use Rattle.dk_top.specs.Output.{output_file}
+use Rattle.dk_top.specs.Performing.{PerformsWork, EndsRight, HasStored}
 use Rattle.dk_top.specs.State.{IsPrefix}
 use Rattle.dk_top.specs.Verdict.{eval_terms, OfPair}
 use Rattle.dk_top.proofs.CommandLemmas.{stored_told, read_pair}
+use Rattle.dk_top.proofs.EndingLemmas.{at_error, at_fault}
 use Rattle.dk_top.proofs.ReadLemmas.{read_good}
 use Rattle.dk_top.proofs.commands.evaluating.FileNamesWork.perform.Goals as goal
 
-pub returns-in-Ok-write_file-clause-output : goal.returns-in-Ok-write_file-clause-output
-returns-in-Ok-write_file-clause-output g c = λ opened.
-    stored_told _ eval_terms c.args.self.now.program.now c.args.self.now.image.now _ c.in-Ok-evaluated.output.items (λ written whole. written ≡ whole)
-    (read_pair _ c.args.self.now.program.now c.args.self.now.image.now c.in-Ok.given.ir c.in-Ok.given.rounds.items (λ source file. OfPair eval_terms source file (λ p images. c.in-Ok-evaluated.output.items ≡ output_file p images)) c.in-Ok.ensures.read c.in-Ok-evaluated.ensures.output)
-    (subst (λ bytes. IfSome (g.D.Desk.outside c.write_file.new.desk).file.bytes (λ written. written ≡ bytes)) c.deref.ensures.value c.in-Ok-write_file.ensures.whole)
+pub returns-in_err-given : goal.returns-in_err-given
+returns-in_err-given g c =
+    let w = c.args.self.now in
+    let old : Outside = g.D.Desk.outside c.args.desk.now in
+    let new : Outside = g.D.Desk.outside c.read_given.new.desk in
+    at_error (λ e. PerformsWork (eval_command w.program.now w.image.now w.out.now) e old new) c.from_residual.result c.in_err-given.field-0.0 c.from_residual.ensures.1 (record {
+      taken = search rules;
+      verdict = search rules;
+      read_fault = search rules;
+      write_fault = search rules;
+      asked = search rules;
+      order = search rules;
+      too_long = search rules;
+      created = search rules;
+      begun = search rules;
+      reads = search rules;
+      written = search rules;
+      output = search rules;
+      files = search rules;
+      files_stay = search rules;
+      own = search rules;
+      report = search rules;
+      report_stays = search rules;
+      notes = search rules;
+      notes_stay = search rules;
+      fault = search rules;
+      fault_count = search rules;
+    })
 
-pub returns-clause-output : goal.returns-clause-output
-returns-clause-output g c = λ opened.
-    stored_told _ eval_terms c.args.self.now.program.now c.args.self.now.image.now _ c.in-Ok-evaluated.output.items IsPrefix
-    (read_pair _ c.args.self.now.program.now c.args.self.now.image.now c.in-Ok.given.ir c.in-Ok.given.rounds.items (λ source file. OfPair eval_terms source file (λ p images. c.in-Ok-evaluated.output.items ≡ output_file p images)) c.in-Ok.ensures.read c.in-Ok-evaluated.ensures.output)
-    (subst (λ bytes. IfSome (g.D.Desk.outside c.write_file.new.desk).file.bytes (λ written. IsPrefix written bytes)) c.deref.ensures.value (c.in-Err-write_file.ensures.prefix opened))
+pub returns-in_err-write_file : goal.returns-in_err-write_file
+returns-in_err-write_file g c =
+    let outside = g.D.Desk.outside in
+    let w = c.args.self.now in
+    let old : Outside = outside c.args.desk.now in
+    let new : Outside = outside c.write_file.new.desk in
+    let given = c.in_ok-given.given in
+    let verdict : EndsRight (Some (eval_command w.program.now w.image.now w.out.now)) ending.WriteFault old = read_good _ eval_terms w.program.now w.image.now given.ir given.rounds.items c.in_ok-given.ensures.read in
+    let output : HasStored (Some (eval_command w.program.now w.image.now w.out.now)) ending.WriteFault old new = λ opened.
+    stored_told _ eval_terms w.program.now w.image.now _ c.in-Ok.output.items IsPrefix
+    (read_pair _ w.program.now w.image.now given.ir given.rounds.items (λ source file. OfPair eval_terms source file (λ p images. c.in-Ok.output.items ≡ output_file p images)) c.in_ok-given.ensures.read c.in-Ok.ensures.output)
+    (subst (λ bytes. IfSome new.file.bytes (λ written. IsPrefix written bytes)) c.deref.ensures.value (c.in_err-write_file.ensures.prefix opened)) in
+    at_fault (λ e. PerformsWork (eval_command w.program.now w.image.now w.out.now) e old new) c.from_residual-in_err-write_file.result c.in_err-write_file.field-0.0 c.from_residual-in_err-write_file.ensures.1 c.in_err-write_file.ensures.fault (search (rules, verdict, output))
 
-pub returns-in-Ok-write_file-clause-verdict : goal.returns-in-Ok-write_file-clause-verdict
-returns-in-Ok-write_file-clause-verdict g c = read_good _ eval_terms c.args.self.now.program.now c.args.self.now.image.now c.in-Ok.given.ir c.in-Ok.given.rounds.items c.in-Ok.ensures.read
-
-pub returns-clause-verdict : goal.returns-clause-verdict
-returns-clause-verdict g c = read_good _ eval_terms c.args.self.now.program.now c.args.self.now.image.now c.in-Ok.given.ir c.in-Ok.given.rounds.items c.in-Ok.ensures.read
-
-pub returns-clause-files_stay : goal.returns-clause-files_stay
-returns-clause-files_stay g c = λ closed. c.write_file.ensures.files_stay closed ∙ ap (λ (o : Outside). o.files) c.in-Ok.ensures.only
+pub returns : goal.returns
+returns g c =
+    let outside = g.D.Desk.outside in
+    let w = c.args.self.now in
+    let old : Outside = outside c.args.desk.now in
+    let new : Outside = outside c.write_file.new.desk in
+    let given = c.in_ok-given.given in
+    let verdict : EndsRight (Some (eval_command w.program.now w.image.now w.out.now)) ending.Done old = read_good _ eval_terms w.program.now w.image.now given.ir given.rounds.items c.in_ok-given.ensures.read in
+    let output : HasStored (Some (eval_command w.program.now w.image.now w.out.now)) ending.Done old new = λ opened.
+    stored_told _ eval_terms w.program.now w.image.now _ c.in-Ok.output.items (λ written whole. written ≡ whole)
+    (read_pair _ w.program.now w.image.now given.ir given.rounds.items (λ source file. OfPair eval_terms source file (λ p images. c.in-Ok.output.items ≡ output_file p images)) c.in_ok-given.ensures.read c.in-Ok.ensures.output)
+    (subst (λ bytes. IfSome new.file.bytes (λ written. written ≡ bytes)) c.deref.ensures.value c.in_ok-write_file.ensures.whole) in
+    search (rules, verdict, output)

@@ -1,14 +1,81 @@
-use Rattle.std.proofs.Common.{◌≡◌, ap, subst}
+use Rattle.std.proofs.Common.{◌≡◌, Some, ap, subst, rules}
 use Rattle.dk_desk.specs.Calls.{IsIfTold, grown}
 use Rattle.dk_desk.specs.Outside.{Outside}
+use Rattle.dk_endings.specs.declared.ending.Ending.TheVariants as ending
+use Rattle.dk_top.specs.Command.{make as make_command}
 use Rattle.dk_top.specs.Making.{IsMadeLine}
-use Rattle.dk_top.proofs.ReportLemmas.{whole}
+use Rattle.dk_top.specs.State.{ReportsFront}
+use Rattle.dk_top.specs.Performing.{PerformsWork, HasReported}
+use Rattle.dk_top.proofs.EndingLemmas.{at_fault}
+use Rattle.dk_top.proofs.ReportLemmas.{whole, front}
 use Rattle.dk_top.proofs.commands.making.MakeWordsWork.perform.Goals as goal
 
-pub returns-in-Ok-write_report-clause-report : goal.returns-in-Ok-write_report-clause-report
-returns-in-Ok-write_report-clause-report g c = λ files.
+pub returns-in_err-write_report : goal.returns-in_err-write_report
+returns-in_err-write_report g c =
     let outside = g.D.Desk.outside in
-    let before : (outside c.made_line.new.desk).report ≡ (outside c.args.desk.now).report = ap (λ (o : Outside). o.report) c.in-Ok.ensures.only in
-    whole (IsMadeLine c.args.self.now.number) c.in-Ok.line.items _ _ c.in-Ok.ensures.line
-    (subst (λ t. IsIfTold (outside c.write_report.new.desk).report (grown (outside c.args.desk.now).report t)) c.deref.ensures.value
-    (subst (λ r. IsIfTold (outside c.write_report.new.desk).report (grown r c.deref.result.now)) before c.in-Ok-write_report.ensures.whole))
+    let n = c.args.self.now.number in
+    let old : Outside = outside c.args.desk.now in
+    let new : Outside = outside c.write_report.new.desk in
+    let before : (outside c.made_line.new.desk).report ≡ old.report = ap (λ (o : Outside). o.report) c.in_ok-line.ensures.only in
+    let report : HasReported (Some (make_command n)) ending.WriteFault old new = λ files.
+    front (IsMadeLine n) c.in_ok-line.line.items _ _ c.in_ok-line.ensures.line
+    (subst (λ t. ReportsFront t old.report new.report) c.deref.ensures.value
+    (subst (λ r. ReportsFront c.deref.result.now r new.report) before c.in_err-write_report.ensures.front)) in
+    at_fault (λ e. PerformsWork (make_command n) e old new) c.from_residual-in_err-write_report.result c.in_err-write_report.field-0.0 c.from_residual-in_err-write_report.ensures.1 c.in_err-write_report.ensures.fault (record {
+      taken = search rules;
+      verdict = search rules;
+      read_fault = search rules;
+      write_fault = search rules;
+      asked = search rules;
+      order = search rules;
+      too_long = search rules;
+      created = search rules;
+      begun = search rules;
+      reads = search rules;
+      written = search rules;
+      output = search rules;
+      files = search rules;
+      files_stay = search rules;
+      own = search rules;
+      report = report;
+      report_stays = search rules;
+      notes = search rules;
+      notes_stay = search rules;
+      fault = search rules;
+      fault_count = search rules;
+    })
+
+pub returns : goal.returns
+returns g c =
+    let outside = g.D.Desk.outside in
+    let n = c.args.self.now.number in
+    let old : Outside = outside c.args.desk.now in
+    let new : Outside = outside c.write_report.new.desk in
+    let before : (outside c.made_line.new.desk).report ≡ old.report = ap (λ (o : Outside). o.report) c.in_ok-line.ensures.only in
+    let report : HasReported (Some (make_command n)) ending.Done old new = λ files.
+    whole (IsMadeLine n) c.in_ok-line.line.items _ _ c.in_ok-line.ensures.line
+    (subst (λ t. IsIfTold new.report (grown old.report t)) c.deref.ensures.value
+    (subst (λ r. IsIfTold new.report (grown r c.deref.result.now)) before c.in_ok-write_report.ensures.whole)) in
+    record {
+      taken = search rules;
+      verdict = search rules;
+      read_fault = search rules;
+      write_fault = search rules;
+      asked = search rules;
+      order = search rules;
+      too_long = search rules;
+      created = search rules;
+      begun = search rules;
+      reads = search rules;
+      written = search rules;
+      output = search rules;
+      files = search rules;
+      files_stay = search rules;
+      own = search rules;
+      report = report;
+      report_stays = search rules;
+      notes = search rules;
+      notes_stay = search rules;
+      fault = search rules;
+      fault_count = search rules;
+    }
