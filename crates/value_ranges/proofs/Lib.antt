@@ -2,3 +2,4 @@ pub mod Ends
 pub mod Fewest
 pub mod Ranged
 pub mod Imaged
+mod Spans

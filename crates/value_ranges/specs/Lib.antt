@@ -1,3 +1,4 @@
 pub mod Intervals
+pub mod Ranges
 pub mod Parts
 pub mod Images

@@ -11,5 +11,5 @@ loop-input-preserved c =
     rw c.in_ok-push.ensures.items
     (record {
       count = omega (arith, longer, count);
-      types = types_more c.args.inputs.now c.loop-input.ranges.items c.loop-input.input-index c.input-item.result c.of_type.result count there (λ v h. (c.of_type.ensures v).1 h) c.loop-input.invariant.types;
+      types = types_more c.args.inputs.now c.loop-input.ranges.items c.loop-input.input-index c.input-item.result c.of_type.result count there (λ v h. (c.of_type.ensures.values v).1 h) c.loop-input.invariant.types;
     })
