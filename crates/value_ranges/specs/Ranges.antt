@@ -153,6 +153,10 @@ abbrev pub image_interval : Ty → Option Interval → Interval
 image_interval t (Some a) = meet (join a (only (pos 0))) (type_range t)
 image_interval t None = type_range t
 
--- the intervals of all images: an input has the range of its type, and each image has its interval over those of the images before it
+-- these intervals, and those of the images, each over the ones before it
+abbrev pub intervals_from : List Interval → List Definition → List Interval
+intervals_from known images = fold (λ known (d : Definition). known ++ image_interval d.ty (interval_of known (tree_of d.body)) ∷ []) known images
+
+-- the intervals of all images, inputs first: an input has the range of its type
 abbrev pub intervals_of : Program → List Interval
-intervals_of p = fold (λ known (d : Definition). known ++ image_interval d.ty (interval_of known (tree_of d.body)) ∷ []) (map (λ (i : Input). type_range i.ty) p.inputs) p.images
+intervals_of p = intervals_from (map (λ (i : Input). type_range i.ty) p.inputs) p.images
