@@ -3,3 +3,4 @@ pub mod Fewest
 pub mod Ranged
 pub mod Imaged
 mod Spans
+mod Widened

@@ -74,7 +74,6 @@ span_low l g over = let a = fits_no l over in cc
 pub span_high : (l g : ℤ) → (FitsSigned w128 g → ⊥) → None ≡ spanning l g
 span_high l g over = both (Some (record { least = l; greatest = g })) (fits l) (fits g) (fits_no g over)
 
-
 known : (v : ℤ) → FitsSigned w128 v ⊎ (FitsSigned w128 v → ⊥)
 known v = elim (int_lt_cases v (neg_ℤ (pos (2 ^ 127)))) [
   | inl (lt, is) ↦ inr (λ f. let b = in_bounds v f in let low = b.0 in omega (arith, ints, low, lt))
@@ -137,7 +136,7 @@ pair_some x y r f h e k = span_some (int_min x y) (int_max x y) r (least_fits x 
 
 pub pair_none : (x y : ℤ) → (FitsSigned w128 x → FitsSigned w128 y → ⊥) → None ≡ spanning (int_min x y) (int_max x y)
 pair_none x y over = span_none (int_min x y) (int_max x y)
-  (λ f h. over (amid (int_min x y) (int_max x y) x f h (omega (arith, ints, clamps)) (omega (arith, ints, clamps))) (amid (int_min x y) (int_max x y) y f h (omega (arith, ints, clamps)) (omega (arith, ints, clamps))))
+    (λ f h. over (amid (int_min x y) (int_max x y) x f h (omega (arith, ints, clamps)) (omega (arith, ints, clamps))) (amid (int_min x y) (int_max x y) y f h (omega (arith, ints, clamps)) (omega (arith, ints, clamps))))
 
 pub pair_none_first : (x y : ℤ) → (FitsSigned w128 x → ⊥) → None ≡ spanning (int_min x y) (int_max x y)
 pair_none_first x y far = pair_none x y (λ f h. far f)
@@ -151,16 +150,16 @@ products_none_first a b none = wider (a.least *ℤ b.least) (a.least *ℤ b.grea
   where
     wider : (p q s t : ℤ) → None ≡ spanning (int_min p q) (int_max p q) → None ≡ spanning (int_min (int_min p q) (int_min s t)) (int_max (int_max p q) (int_max s t))
     wider p q s t none = span_none _ _ (λ f h. span_not (int_min p q) (int_max p q) none
-      (amid _ _ (int_min p q) f h (omega (arith, ints, clamps)) (omega (arith, ints, clamps)))
-      (amid _ _ (int_max p q) f h (omega (arith, ints, clamps)) (omega (arith, ints, clamps))))
+        (amid _ _ (int_min p q) f h (omega (arith, ints, clamps)) (omega (arith, ints, clamps)))
+        (amid _ _ (int_max p q) f h (omega (arith, ints, clamps)) (omega (arith, ints, clamps))))
 
 pub products_none_last : (a b : Interval) → None ≡ multiples_by a.greatest b → None ≡ products a b
 products_none_last a b none = wider (a.least *ℤ b.least) (a.least *ℤ b.greatest) (a.greatest *ℤ b.least) (a.greatest *ℤ b.greatest) none
   where
     wider : (p q s t : ℤ) → None ≡ spanning (int_min s t) (int_max s t) → None ≡ spanning (int_min (int_min p q) (int_min s t)) (int_max (int_max p q) (int_max s t))
     wider p q s t none = span_none _ _ (λ f h. span_not (int_min s t) (int_max s t) none
-      (amid _ _ (int_min s t) f h (omega (arith, ints, clamps)) (omega (arith, ints, clamps)))
-      (amid _ _ (int_max s t) f h (omega (arith, ints, clamps)) (omega (arith, ints, clamps))))
+        (amid _ _ (int_min s t) f h (omega (arith, ints, clamps)) (omega (arith, ints, clamps)))
+        (amid _ _ (int_max s t) f h (omega (arith, ints, clamps)) (omega (arith, ints, clamps))))
 
 pub products_some : (a b one other r : Interval) → Some one ≡ multiples_by a.least b → Some other ≡ multiples_by a.greatest b → r.least ≡ int_min one.least other.least → r.greatest ≡ int_max one.greatest other.greatest → Some r ≡ products a b
 products_some a b one other r first last low high = joined (a.least *ℤ b.least) (a.least *ℤ b.greatest) (a.greatest *ℤ b.least) (a.greatest *ℤ b.greatest) (span_is _ _ one first) (span_is _ _ other last)
@@ -180,7 +179,7 @@ magnitudes_none a fit low none = elim (int_lt_cases a.least (pos 0)) [
   | inl (lt, is) ↦ elim (int_lt_cases (pos 0) a.greatest) [
     | inl (above, also) ↦
         let over : None ≡ spanning (pos 0) (int_max a.greatest (pos 0 -ℤ a.least)) = span_none _ _ (λ f h. span_not (pos 0 -ℤ a.greatest) (pos 0 -ℤ a.least) none (opposite_fits a.greatest above fit)
-          (amid (pos 0) (int_max a.greatest (pos 0 -ℤ a.least)) (pos 0 -ℤ a.least) f h (omega (arith, ints, lt)) (omega (arith, ints, clamps)))) in
+        (amid (pos 0) (int_max a.greatest (pos 0 -ℤ a.least)) (pos 0 -ℤ a.least) f h (omega (arith, ints, lt)) (omega (arith, ints, clamps)))) in
         cc
     | inr (most, also) ↦ cc
   ]

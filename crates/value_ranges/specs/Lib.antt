@@ -2,3 +2,4 @@ pub mod Intervals
 pub mod Ranges
 pub mod Parts
 pub mod Images
+pub mod Wider

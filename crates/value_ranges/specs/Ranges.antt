@@ -54,7 +54,7 @@ differences_from v a = spanning (v -ℤ a.greatest) (v -ℤ a.least)
 abbrev pub magnitudes : Interval → Option Interval
 magnitudes a =
     if int_lt a.least (pos 0) then
-      if int_lt (pos 0) a.greatest then spanning (pos 0) (int_max a.greatest (pos 0 -ℤ a.least)) else differences_from (pos 0) a
+    if int_lt (pos 0) a.greatest then spanning (pos 0) (int_max a.greatest (pos 0 -ℤ a.least)) else differences_from (pos 0) a
     else Some a
 
 -- one operand

@@ -32,7 +32,7 @@ fn edged_range(edge: Edge, range: Interval) -> Interval
 }
 
 // The interval of an image, where it is one of these.
-fn range_at(ranges: &[Interval], image: u32) -> Option<Interval>
+pub(crate) fn range_at(ranges: &[Interval], image: u32) -> Option<Interval>
     ensures { result ≡ slice_get ranges.now image }
 {
     let image = image as usize;
