@@ -9,4 +9,5 @@ pub mod Cuts
 pub mod Judged
 pub mod Widened
 pub mod Narrowed
+pub mod NarrowLines
 pub mod Correct

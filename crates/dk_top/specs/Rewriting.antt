@@ -7,7 +7,7 @@ use Rattle.dk_compile.specs.Cuts.{IsCutOf}
 use Rattle.dk_compile.specs.Narrowed.{IsNarrowed}
 use Rattle.dk_compile.specs.Widened.{IsWidened}
 use Rattle.dk_top.specs.Cutting.{AreCutLines}
-use Rattle.dk_top.specs.Narrowing.{IsNarrowLine}
+use Rattle.dk_top.specs.Narrowing.{AreNarrowLines}
 use Rattle.dk_top.specs.Widening.{IsWidenLine}
 
 -- the text is what the source is rewritten to
@@ -19,7 +19,7 @@ IsRewriteOf (Widen phases) source text = IsWidened source phases text
 -- the lines report the text that the source was rewritten to
 abbrev pub AreRewriteLines : Rewriting → (source text lines : List ℕ) → Type 0
 AreRewriteLines (Cut levels) source text lines = AreCutLines text levels lines
-AreRewriteLines Narrow source text lines = IsNarrowLine source text lines
+AreRewriteLines Narrow source text lines = AreNarrowLines source text lines
 AreRewriteLines (Widen phases) source text lines = IsWidenLine source text lines
 
 -- The lines are those of a text that the source was rewritten to. If the desk specifies File, it is the text that File holds.
