@@ -14,6 +14,10 @@ wider_word Kept = codes "kept"
 abbrev pub wider_words : WiderImage → List ℕ
 wider_words w = codes " " ++ w.name ++ codes " " ++ wider_word w.reason
 
+-- what the line begins with
+unfoldable pub wider_heading : List ℕ
+wider_heading = codes "narrow: wider:"
+
 -- the line of these images; none if there are none
 abbrev pub wider_line : List WiderImage → List ℕ
-wider_line ws = if length ws == 0 then [] else codes "narrow: wider:" ++ flat_map wider_words ws ++ codes "\n"
+wider_line ws = if length ws == 0 then [] else wider_heading ++ flat_map wider_words ws ++ codes "\n"

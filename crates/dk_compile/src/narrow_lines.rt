@@ -1,7 +1,7 @@
 // The line that names the images that have more bits than their values need.
 
 ghost use Rattle.std.specs.Prelude.{◌≡◌, ◌++◌, OnOk, flat_map};
-ghost use Rattle.dk_compile.specs.NarrowLines.{wider_line, wider_words, wider_word as word_of_reason};
+ghost use Rattle.dk_compile.specs.NarrowLines.{wider_line, wider_heading, wider_words, wider_word as word_of_reason};
 
 use dk_base::OutOfMemory;
 use value_ranges::{WiderImage, WiderReason};
@@ -38,6 +38,15 @@ fn push_each(out: &mut Vec<u8>, wider: &[WiderImage]) -> Result<(), OutOfMemory>
     Ok(())
 }
 
+// Adds what the line begins with.
+#[tactic(auto, unfolding(crate::specs::NarrowLines::wider_heading))]
+fn push_heading(out: &mut Vec<u8>) -> Result<(), OutOfMemory>
+    ensures { OnOk result (out.new.items ≡ out.old.items ++ wider_heading) }
+{
+    out.extend_from_slice(b"narrow: wider:")?;
+    Ok(())
+}
+
 /// Adds the line of the images that have more bits than their values need, if there are any.
 pub fn push_wider(out: &mut Vec<u8>, wider: &[WiderImage]) -> Result<(), OutOfMemory>
     ensures { OnOk result (out.new.items ≡ out.old.items ++ wider_line wider.now) }
@@ -45,7 +54,7 @@ pub fn push_wider(out: &mut Vec<u8>, wider: &[WiderImage]) -> Result<(), OutOfMe
     if wider.is_empty() {
         return Ok(());
     }
-    out.extend_from_slice(b"narrow: wider:")?;
+    push_heading(out)?;
     push_each(out, wider)?;
     out.extend_from_slice(b"\n")?;
     Ok(())
