@@ -15,7 +15,7 @@ use Rattle.dk_compile.specs.Judged.{HasForm}
 use Rattle.value_ranges.specs.declared.wider.WiderImage.{WiderImage}
 use Rattle.value_ranges.specs.Wider.{wider_of}
 use Rattle.dk_compile.specs.Fronts.{HasOwnBodies}
-use Rattle.dk_compile.specs.Narrowed.{AreNoWider, IsOneNarrower, HasNoMoreBits, IsNarrowed, IsNarrowing, NarrowsForm, HasWiderImages, AreWiderImages}
+use Rattle.dk_compile.specs.Narrowed.{AreNoWider, IsOneNarrower, HasNoMoreBits, IsNarrowed, NarrowsForm, HasWiderImages, AreWiderImages}
 use Rattle.dk_compile.proofs.Same.{same_of_forms}
 
 -- of each image by its number
@@ -85,9 +85,6 @@ same_bits text shown bits has same = subst (λ (t : List ℕ). HasLeastBits t bi
 -- a planned text's form has its own bodies
 pub planned_own : (text : List ℕ) (p : Typing) (ir : Program) (s : System) (x : Solution) (plan : Plan) → IsPlanned text 0 p ir s x plan → HasOwnBodies p ir
 planned_own text p ir s x plan is = is.has.front.bodies
-
-pub wider_form : (old new : Program) (text : List ℕ) (p : Typing) (wider : List WiderImage) → HasForm text p new → HasOwnBodies p new → IsNarrowing old new → wider ≡ wider_of old new false → HasWiderImages old text wider
-wider_form old new text p wider has own narrowing are = record { program = p; new = new; has = has; own = own; narrower = narrowing.narrower; images_are = are }
 
 wider_by : (source text : List ℕ) (p : Typing) (old : Program) (wider : List WiderImage) → HasForm source p old → HasOwnBodies p old → HasWiderImages old text wider → AreWiderImages source text wider
 wider_by source text p old wider has own is = record {

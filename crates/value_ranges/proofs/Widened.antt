@@ -1,6 +1,5 @@
 -- Images that have spare bits.
-use Rattle.std.proofs.Common.{◌≡◌, ℕ, zero, suc, ◌+◌, ◌<◌, Bool, true, false, List, [], ◌∷◌, ◌++◌, length, Option, Some, None, slice_get, refl, arith, ap, sym, subst, ◌∙◌}
-use Rattle.std.proofs.lemmas.List.{append-nil}
+use Rattle.std.proofs.Common.{◌≡◌, ℕ, zero, suc, ◌+◌, ◌<◌, Bool, true, List, [], ◌∷◌, ◌++◌, length, Option, Some, None, slice_get, refl, arith, ap, sym, subst, ◌∙◌}
 use Rattle.dk_base.specs.declared.ty.Ty.{Ty}
 use Rattle.pointwise_ir.specs.declared.program.Definition.{Definition}
 use Rattle.pointwise_ir.specs.Programs.{Program}
@@ -17,13 +16,6 @@ there_is (x ∷ xs) (suc k) lt = there_is xs k (omega (arith, lt))
 entry_is : (o s : Bool) (a : Option Definition) (b : Option Interval) (d : Definition) (r : Interval) → a ≡ Some d → b ≡ Some r → has_spare_bits d.ty r ≡ true → entry_of o s a b ≡ record { name = d.name; reason = reason_of o s } ∷ []
 entry_is o s a b d r e f spare = cc
 
-no_entry : (o s : Bool) (a : Option Definition) (b : Option Interval) (d : Definition) (r : Interval) → a ≡ Some d → b ≡ Some r → has_spare_bits d.ty r ≡ false → entry_of o s a b ≡ []
-no_entry o s a b d r e f none = cc
-
-entry_past : (o s : Bool) (a : Option Definition) (b : Option Interval) → b ≡ None → entry_of o s a b ≡ []
-entry_past o s None b e = refl
-entry_past o s (Some d) b e = cc
-
 -- what is added for the k-th image
 at_number : (ranges : List Interval) (p : Program) (s : Bool) (k n : ℕ) (l : List WiderImage) → n ≡ length p.inputs + k → entry_of (is_output_of p n) s (slice_get p.images k) (slice_get ranges n) ≡ l → wider_at ranges p s k ≡ l
 at_number ranges p s k n l e is = sym (ap (λ (m : ℕ). entry_of (is_output_of p m) s (slice_get p.images k) (slice_get ranges m)) e) ∙ is
@@ -34,14 +26,3 @@ added ranges p s k n d t r w old new e at there typed spare is more =
     let own : has_spare_bits d.ty r ≡ true = subst (λ (u : Ty). has_spare_bits u r ≡ true) typed spare in
     let one = at_number ranges p s k n _ e (entry_is (is_output_of p n) s (slice_get p.images k) (slice_get ranges n) d r at there own) in
     more ∙ ap (λ (x : WiderImage). old ++ x ∷ []) is ∙ sym (ap (λ (l : List WiderImage). old ++ l) one)
-
-pub not_added : (ranges : List Interval) (p : Program) (s : Bool) (k n : ℕ) (d : Definition) (t : Ty) (r : Interval) (old : List WiderImage) → n ≡ length p.inputs + k → slice_get p.images k ≡ Some d → slice_get ranges n ≡ Some r → t ≡ d.ty → has_spare_bits t r ≡ false → old ≡ old ++ wider_at ranges p s k
-not_added ranges p s k n d t r old e at there typed none =
-    let own : has_spare_bits d.ty r ≡ false = subst (λ (u : Ty). has_spare_bits u r ≡ false) typed none in
-    let one = at_number ranges p s k n _ e (no_entry (is_output_of p n) s (slice_get p.images k) (slice_get ranges n) d r at there own) in
-    sym (ap (λ (l : List WiderImage). old ++ l) one ∙ append-nil old)
-
-pub past : (ranges : List Interval) (p : Program) (s : Bool) (k n : ℕ) (old : List WiderImage) → n ≡ length p.inputs + k → slice_get ranges n ≡ None → old ≡ old ++ wider_at ranges p s k
-past ranges p s k n old e none =
-    let one = at_number ranges p s k n _ e (entry_past (is_output_of p n) s (slice_get p.images k) (slice_get ranges n) none) in
-    sym (ap (λ (l : List WiderImage). old ++ l) one ∙ append-nil old)
