@@ -336,7 +336,7 @@ How to read a definition:
 
 def headline(modules, types, places):
     """The theorem of the compiler with its own definitions, those of their file."""
-    _, law = clauses(f"{TOP}/crates/dk_top/src/laws.rt", "correct_law")
+    _, law = clauses(f"{TOP}/crates/dk_laws/src/compiled.rt", "correct_law")
     own = modules["Rattle.dk_compile.specs.Correct"].order
     out = ["## The theorem", "", "If the call ends with Done, the text that `compile` leaves in OUT denotes one module. This module has the program's ports. From any contents it shows the program's pictures, and after a reset nothing changes in a clock with `en` 0. Its arrays have the fewest bits of all causal schedules.",
            "", f"`correct_law`, [{law.module.path}](../{law.module.path}):", "", "```", law.text, "```", "",

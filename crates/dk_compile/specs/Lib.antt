@@ -11,3 +11,5 @@ pub mod Widened
 pub mod Narrowed
 pub mod NarrowLines
 pub mod Correct
+pub mod Reported
+pub mod Ports

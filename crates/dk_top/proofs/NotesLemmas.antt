@@ -126,10 +126,10 @@ module _ (laws : Laws) (source : List ℕ) (age : ℕ) (enable : Bool) (block : 
 noted : (laws : Laws) (source : List ℕ) (age : ℕ) (enable : Bool) (block : Option ℕ) (c : Compiled) (from : IsCompiledFrom source age enable block c) (file : List ℕ) (rounds : List (List Image)) → FitsFile (ports from.program) file rounds → (fill : Fill)
     → (notes : List (Bool × ℕ)) × AreNotes (c.«module»).netlist (D.drive_from fill (clocks_of from.program c.plan rounds)) (samples_of rounds) notes
 noted laws source age enable block c from file rounds fits Zeros =
-    let (shots, to, runs) = ran laws source age enable block c from c.text.items file rounds refl fits power.Zeros in
+    let (shots, to, runs) = ran laws source age enable block c from file rounds fits power.Zeros in
     (notes_of (c.«module»).netlist shots, record { shots = shots; run = record { to = to; runs = runs }; notes_are = refl })
 noted laws source age enable block c from file rounds fits Ones =
-    let (shots, to, runs) = ran laws source age enable block c from c.text.items file rounds refl fits power.Ones in
+    let (shots, to, runs) = ran laws source age enable block c from file rounds fits power.Ones in
     (notes_of (c.«module»).netlist shots, record { shots = shots; run = record { to = to; runs = runs }; notes_are = refl })
 
 -- ---- each text of the program

@@ -131,8 +131,8 @@ module _ (one : OneModule) (agree : OneAgreed) (text_apart : ModuleApart) (token
   -- a text that lacks `en` is that of a module without it
   without_enable : (hold : Option ℕ) (t : List ℕ) (m : NamedNetlist) (name : Span) → IsModuleOf hold t m → LacksEnable hold t name → ⊥
   without_enable hold t m name is lacks =
-      let same : m ≡ lacks.m = one t m lacks.m is.stands lacks.stands in
-      let e : true ≡ false = sym (is.enable lacks.holds) ∙ (ap (λ (n : NamedNetlist). n.netlist.enable) same ∙ lacks.without) in
+      let same : m ≡ lacks.lacks.m = one t m lacks.lacks.m is.stands lacks.lacks.stands in
+      let e : true ≡ false = sym (is.enable lacks.holds) ∙ (ap (λ (n : NamedNetlist). n.netlist.enable) same ∙ lacks.lacks.without) in
       let f : ⊥ = cc in f
 
   -- a text that is in order has no fault
@@ -148,12 +148,12 @@ module _ (one : OneModule) (agree : OneAgreed) (text_apart : ModuleApart) (token
   one_name t a b x y = tree x.tokens a b x.is_module (subst (λ ts. Module ts b) (sym (tokens t x.tokens y.tokens x.has_tokens y.has_tokens)) y.is_module)
 
   one_lack : (hold : Option ℕ) (t : List ℕ) (a b : Span) → LacksEnable hold t a → LacksEnable hold t b → a ≡ b
-  one_lack hold t a b x y = x.name_is ∙ (ap (λ (s : Source). s.name) (one_name t x.source y.source x.written y.written) ∙ sym y.name_is)
+  one_lack hold t a b x y = x.lacks.name_is ∙ (ap (λ (s : Source). s.name) (one_name t x.lacks.source y.lacks.source x.lacks.written y.lacks.written) ∙ sym y.lacks.name_is)
 
   one_text : (hold : Option ℕ) (t : List ℕ) (x y : VerilogFault) → IsTextFault hold t x → IsTextFault hold t y → AreAlike (ending.Verilog x) (ending.Verilog y)
   one_text hold t x y (of_text f fault a) (of_text g other b) = told_alike f g x y (agree t f g fault other) a b
-  one_text hold t x y (of_text f fault a) (of_ports name lacks b) = absurd (text_apart t lacks.m f lacks.stands fault)
-  one_text hold t x y (of_ports name lacks a) (of_text g other b) = absurd (text_apart t lacks.m g lacks.stands other)
+  one_text hold t x y (of_text f fault a) (of_ports name lacks b) = absurd (text_apart t lacks.lacks.m f lacks.lacks.stands fault)
+  one_text hold t x y (of_ports name lacks a) (of_text g other b) = absurd (text_apart t lacks.lacks.m g lacks.lacks.stands other)
   one_text hold t x y (of_ports name lacks a) (of_ports other more b) = alike_of (ending.Verilog x) (ending.Verilog y) (ap ending.Verilog (a ∙ (ap (λ s. At s kind.Ports) (one_lack hold t name other lacks more) ∙ sym b)))
 
   one_verilog : (hold : Option ℕ) (t : List ℕ) (x y : VerilogFault) → IsVerilogFault hold t x → IsVerilogFault hold t y → AreAlike (ending.Verilog x) (ending.Verilog y)

@@ -1,19 +1,19 @@
--- `compile` and then `sim`: a Verilog text that a program is compiled to, and the images that its module is driven with.
-use Rattle.std.specs.Prelude.{ℕ, ◌+◌, ◌*◌, ◌≤◌, Bool, List, length, Option, None, Some}
-use Rattle.dk_base.specs.declared.TheConstants.{MAX_PGM_BYTES, MAX_VERILOG_BYTES}
-use Rattle.dk_base.specs.Frames.{area}
+-- The plan of a text's program at an age, and the notes of its modules.
+use Rattle.std.specs.Prelude.{◌≡◌, ℕ, Bool, List, length, Option, None}
 use Rattle.dk_types.specs.Typed.{Typing}
+use Rattle.netlist.specs.Names.{NamedNetlist}
 use Rattle.pointwise_ir.specs.Programs.{Program}
 use Rattle.raster_delay.specs.Systems.{System}
 use Rattle.flow_dual.specs.declared.solution.Solution.{Solution}
 use Rattle.buffer_plan.specs.Plans.{Plan, latency}
+use Rattle.verilog_text.specs.Stands.{StandsFor}
+use Rattle.cycle_sim.specs.declared.fill.Fill.{Fill}
 use Rattle.pgm_codec.specs.Images.{Image}
-use Rattle.stimulus.specs.declared.drive.Drive.{Drive}
-use Rattle.dk_words.specs.declared.command.PowerUp.{PowerUp}
+use Rattle.stimulus.specs.Inputs.{samples_of}
+use Rattle.stimulus.specs.Showing.{IsNoted as AreNotes}
 use Rattle.dk_compile.specs.Compiled.{IsPlanned}
-use Rattle.dk_top.specs.Compiling.{IsCompiledText}
+use Rattle.dk_top.specs.Compiling.{IsCompiledText, AreTextNotes, AgreeWhereValid, filled_drive}
 use Rattle.dk_top.specs.Output.{Fits}
-use Rattle.dk_top.specs.Simulation.{drive_of}
 
 -- p is the program of the text, and this is its plan at the age
 pub record HasPlan (source : List ℕ) (age : ℕ) (p : Typing) (plan : Plan) : Type 0 where
@@ -22,23 +22,13 @@ pub record HasPlan (source : List ℕ) (age : ℕ) (p : Typing) (plan : Plan) : 
   pub solution : Solution
   pub planned : IsPlanned source age p ir system solution plan
 
--- A program with its plan at an age, a Verilog text that it is compiled to, and a file of rounds of images that fit it.
--- Both files are within the limits of `sim`.
-pub record CompiledInput : Type 0 where
-  pub source : List ℕ
-  pub age : ℕ
-  pub enable : Bool
-  pub block : Option ℕ
-  pub program : Typing
-  pub plan : Plan
-  pub text : List ℕ
-  pub file : List ℕ
-  pub rounds : List (List Image)
-  pub has_plan : HasPlan source age program plan
-  pub compiled : IsCompiledText source age enable block text
-  pub short : length text ≤ MAX_VERILOG_BYTES
-  pub fits : Fits (Some MAX_PGM_BYTES) program file rounds
-
--- a clock for each pixel of all rounds, and then the clocks of the latency, without held clocks
-abbrev pub whole_drive : CompiledInput → PowerUp → Drive
-whole_drive given fill = drive_of (length given.rounds * area given.program.size + latency given.plan) fill None
+-- A program has one plan at an age, and the notes of its modules agree.
+pub record NotesAgree : Type 0 where
+  pub plan : (source : List ℕ) (age : ℕ) (p q : Typing) (one other : Plan) → HasPlan source age p one → HasPlan source age q other → one ≡ other
+  -- the notes of two modules have the same `valid` in each clock, and the same `dout` where it is 1
+  pub agree : (source file : List ℕ) (age : ℕ) (p : Typing) (plan : Plan) (rounds : List (List Image)) → HasPlan source age p plan → Fits None p file rounds
+      → (one other : List (Bool × ℕ)) → AreTextNotes source age p plan rounds one → AreTextNotes source age p plan rounds other → AgreeWhereValid one other
+  -- each module of a Verilog text has notes on rounds that fit, from zeros and from ones
+  pub some : (source file : List ℕ) (age : ℕ) (p : Typing) (plan : Plan) (rounds : List (List Image)) → HasPlan source age p plan → Fits None p file rounds
+      → (enable : Bool) (block : Option ℕ) (text : List ℕ) (m : NamedNetlist) (fill : Fill) → IsCompiledText source age enable block text → StandsFor text m
+      → (notes : List (Bool × ℕ)) × AreNotes m.netlist (filled_drive fill p.size (latency plan) (length rounds)) (samples_of rounds) notes

@@ -1,22 +1,20 @@
 -- What a program's text is compiled to, and how it is clocked.
-use Rattle.std.specs.Prelude.{◌≡◌, ℕ, ◌+◌, ◌*◌, Bool, false, IsTrue, List, ◌++◌, length, Option, None}
+use Rattle.std.specs.Prelude.{◌≡◌, ℕ, Bool, false, IsTrue, List, ◌++◌, length, Option, None}
 use Rattle.std.specs.List.{AllZip}
 use Rattle.std.specs.Option.{option_map}
-use Rattle.dk_base.specs.Frames.{Size, area}
 use Rattle.dk_desk.specs.Calls.{IsIfTold}
 use Rattle.netlist.specs.Names.{NamedNetlist}
 use Rattle.buffer_plan.specs.Plans.{Plan, latency}
 use Rattle.verilog_text.specs.Stands.{StandsFor}
 use Rattle.cycle_sim.specs.declared.fill.Fill.{Fill}
-use Rattle.cycle_sim.specs.declared.fill.Fill.TheVariants.{Zeros}
 use Rattle.pgm_codec.specs.Images.{Image}
-use Rattle.stimulus.specs.declared.drive.Drive.{Drive}
 use Rattle.stimulus.specs.Inputs.{samples_of}
 use Rattle.stimulus.specs.Showing.{IsNoted as AreNotes}
 use Rattle.dk_types.specs.Typed.{Typing}
 use Rattle.dk_compile.specs.declared.compiling.Compiled.{Compiled}
 use Rattle.dk_compile.specs.Compiled.{IsCompiled}
 use Rattle.net_lines.specs.Lines.{net_lines}
+pub use Rattle.test_bench.specs.Drives.{filled_drive, frame_drive}
 
 -- This is what the text is compiled to at an age, with the port `en` or without it.
 pub record IsCompiledFrom (source : List ℕ) (age : ℕ) (enable : Bool) (block : Option ℕ) (c : Compiled) : Type 0 where
@@ -34,14 +32,6 @@ pub record AreNetLines (source : List ℕ) (age : ℕ) (enable : Bool) (block : 
   pub compiled : Compiled
   pub from : IsCompiledFrom source age enable block compiled
   pub are : lines ≡ net_lines compiled.ir compiled.plan compiled.«module» compiled.nets.items compiled.reads.items
-
--- how a module is driven with this many rounds of frames, from zeros or from ones: with a clock for each pixel, and then those of the latency
-abbrev pub filled_drive : Fill → Size → (latency rounds : ℕ) → Drive
-filled_drive fill size latency rounds = record { clocks = rounds * area size + latency; fill = fill; hold = None }
-
--- from zeros, as `run` does
-abbrev pub frame_drive : Size → (latency rounds : ℕ) → Drive
-frame_drive size latency rounds = filled_drive Zeros size latency rounds
 
 -- These are the notes of a module that a Verilog text of the program denotes, compiled with any options of `compile` at this age.
 -- It is driven with these rounds, from zeros or from ones.

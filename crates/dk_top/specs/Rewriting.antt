@@ -6,9 +6,7 @@ use Rattle.dk_words.specs.declared.command.Rewriting.TheVariants.{Cut, Narrow, W
 use Rattle.dk_compile.specs.Cuts.{IsCutOf}
 use Rattle.dk_compile.specs.Narrowed.{IsNarrowed}
 use Rattle.dk_compile.specs.Widened.{IsWidened}
-use Rattle.dk_top.specs.Cutting.{AreCutLines}
-use Rattle.dk_top.specs.Narrowing.{AreNarrowLines}
-use Rattle.dk_top.specs.Widening.{IsWidenLine}
+use Rattle.dk_compile.specs.Reported.{AreCutLines, AreNarrowLines, IsWidenLine}
 
 -- the text is what the source is rewritten to
 abbrev pub IsRewriteOf : Rewriting → (source text : List ℕ) → Type 0

@@ -1,5 +1,5 @@
 -- What `sim` judges: a Verilog text, a file of images for its module, and the run of the module.
-use Rattle.std.specs.Prelude.{◌≡◌, ℕ, ◌<◌, ◌≤◌, false, true, List, length, Option, IsSome}
+use Rattle.std.specs.Prelude.{◌≡◌, ℕ, ◌<◌, ◌≤◌, true, List, length, Option, IsSome}
 use Rattle.dk_base.specs.declared.span.Span.{Span}
 use Rattle.dk_base.specs.Frames.{Size}
 use Rattle.netlist.specs.Names.{NamedNetlist}
@@ -8,8 +8,8 @@ use Rattle.cycle_sim.specs.declared.fill.Fill.{Fill}
 use Rattle.cycle_sim.specs.declared.fill.Fill.TheVariants as fill
 use Rattle.cycle_sim.specs.Ports.{din_widths}
 use Rattle.verilog_text.specs.declared.fault.TextFault.{TextFault}
-use Rattle.verilog_text.specs.Grammar.{Source}
-use Rattle.verilog_text.specs.Stands.{IsWritten, StandsFor}
+use Rattle.verilog_text.specs.Stands.{StandsFor}
+use Rattle.verilog_read.specs.Enables.{HasNoEnable}
 use Rattle.verilog_text.specs.Faults.{IsFault}
 use Rattle.pgm_codec.specs.Images.{Image}
 use Rattle.pgm_rounds.specs.declared.fault.FileFault.{FileFault}
@@ -45,12 +45,7 @@ pub record IsModuleOf (hold : Option ℕ) (text : List ℕ) (m : NamedNetlist) :
 -- Clocks are to be held, and the text's module, whose name is here, has no port `en`.
 pub record LacksEnable (hold : Option ℕ) (text : List ℕ) (name : Span) : Type 0 where
   pub holds : IsSome hold
-  pub m : NamedNetlist
-  pub stands : StandsFor text m
-  pub without : m.netlist.enable ≡ false
-  pub source : Source
-  pub written : IsWritten text source
-  pub name_is : name ≡ source.name
+  pub lacks : HasNoEnable text name
 
 -- the first fault of a text within its limit: its own, and then that of a missing `en`
 pub data IsTextFault (hold : Option ℕ) (text : List ℕ) (told : VerilogFault) : Type 0 where

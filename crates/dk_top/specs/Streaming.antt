@@ -24,13 +24,9 @@ use Rattle.dk_compile.specs.declared.compiling.Compiled.{Compiled}
 use Rattle.dk_compile.specs.Limits.{IsAcceptedAt}
 use Rattle.dk_endings.specs.declared.ending.Ending.{Ending}
 use Rattle.dk_endings.specs.declared.ending.Ending.TheVariants as ending
+pub use Rattle.dk_compile.specs.Ports.{IsOnePort}
 use Rattle.dk_top.specs.Program.{ports}
 use Rattle.dk_top.specs.Compiling.{IsCompiledFrom}
-
--- the program takes one image and gives one
-pub record IsOnePort (p : Typing) : Type 0 where
-  pub input : length p.inputs ≡ 1
-  pub output : length p.outputs ≡ 1
 
 -- the bits of the first input
 abbrev pub first_bits : Typing → ℕ

@@ -3,3 +3,4 @@ pub mod Clocking
 pub mod BatchClocks
 pub mod Writing
 pub mod Filling
+pub mod Drives

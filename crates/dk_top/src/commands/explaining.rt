@@ -1,18 +1,16 @@
 //! `explain`: the first fault of a program, with what helps.
 
-ghost use Rattle.std.specs.Prelude.{◌≡◌, ◌⊎◌, ◌≤◌, Some, Err, IfOk, IfErr, MatchOption, length};
+ghost use Rattle.std.specs.Prelude.{◌≡◌, ◌⊎◌, ◌≤◌, Some, Err, IfOk, IfErr, length};
 ghost use Rattle.dk_base.specs.declared.TheConstants.{MAX_SOURCE_BYTES};
 ghost use Rattle.dk_desk.specs.Calls.{IsIfTold, OpensOnly};
 ghost use Rattle.dk_top.specs.Command.{explain as explain_command};
-ghost use Rattle.dk_compile.specs.Limits.{IsFaultAt};
-ghost use Rattle.dk_top.specs.Program.{CanBeCompiled};
 ghost use Rattle.dk_top.specs.Reading.{OfFile, TellsRead};
 ghost use Rattle.dk_top.specs.Refusals.{IsJudgedAs, IsRefusedFor, TellsNoLength, LeavesJudged};
 
 use crate::files::{read_input, write_report};
 use crate::work::Work;
 use dk_base::MAX_SOURCE_BYTES;
-use dk_compile::{SourceError, SourceFault, one_at_age_law, planned};
+use dk_compile::{SourceFault, first_fault};
 use dk_desk::transfer::ReadAll;
 use dk_desk::{Desk, InSlot, Stage};
 use dk_endings::Ending;
@@ -45,22 +43,6 @@ fn explained(alloc: Global, name: &str, text: &[u8], fault: SourceFault) -> Resu
     }
 }
 
-// The first fault of a text at age 0, if it has one.
-fn first_fault(alloc: Global, text: &[u8]) -> Result<Option<SourceFault>, Ending>
-    ensures found { IfOk result (λ f. MatchOption f (CanBeCompiled text.now 0) (IsFaultAt text.now 0)) }
-    ensures memory { IfErr result (λ e. e ≡ Ending.Memory) }
-{
-    one_at_age_law();
-    let error = match planned(alloc, text, 0) {
-        Ok(_) => return Ok(None),
-        Err(error) => error,
-    };
-    match error {
-        SourceError::Fault(fault) => Ok(Some(fault)),
-        SourceError::OutOfMemory => Err(Ending::Memory),
-    }
-}
-
 // Judges a text at age 0.
 fn judge_text(alloc: Global, name: &str, text: &[u8]) -> Result<Judged, Ending>
     ensures judged { IfOk result (IsJudgedAs name.now text.now) }
@@ -68,7 +50,7 @@ fn judge_text(alloc: Global, name: &str, text: &[u8]) -> Result<Judged, Ending>
     ensures memory { IfErr result (λ e. e ≡ Ending.Memory) }
 {
     match first_fault(alloc, text) {
-        Err(ending) => Err(ending),
+        Err(_) => Err(Ending::Memory),
         Ok(None) => Ok(Judged::Accepted),
         Ok(Some(fault)) => explained(alloc, name, text, fault),
     }

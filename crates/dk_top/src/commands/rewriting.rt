@@ -2,6 +2,8 @@
 
 ghost use Rattle.std.specs.Prelude.{◌≡◌, ◌≢◌, ◌⊎◌, Some, Err, IfOk, IfErr, IfSome, OnOk, OnErr, IsErr};
 ghost use Rattle.dk_desk.specs.Calls.{HasCauseIn, IsIfTold, grown};
+ghost use Rattle.dk_words.specs.declared.command.Rewriting.TheVariants.{Widen};
+ghost use Rattle.dk_compile.specs.Widened.{IsWidenErrorBy};
 ghost use Rattle.dk_top.specs.Command.{rewrite as rewrite_command, IsRewriting};
 ghost use Rattle.dk_top.specs.Verdict.{CanBeRewritten};
 ghost use Rattle.dk_top.specs.Rewriting.{IsRewriteOf, AreRewriteLines};
@@ -10,17 +12,28 @@ ghost use Rattle.dk_top.specs.Unread.{unread_rewrite};
 ghost use Rattle.dk_top.specs.State.{IsPrefix, OthersStay, HasOwnFile};
 ghost use Rattle.dk_top.specs.Performing.{AllStay};
 
-use super::cutting::cut_text;
-use super::narrowing::narrow_text;
-use super::reported::Rewritten;
-use super::widening::widen_text;
 use crate::files::{write_file, write_report};
 use crate::of_text::{OfText, read_with};
+use crate::reading::ending_of;
 use crate::work::Work;
+use dk_compile::{Rewritten, WidenError, cut_reported, narrow_reported, widen_reported};
 use dk_desk::{Desk, Failed, Stage};
 use dk_endings::Ending;
 use dk_words::{RewriteWords, Rewriting};
 use std::alloc::Global;
+
+// How a call ends whose program was not widened.
+fn ending_of_widen(error: WidenError) -> Ending
+    ensures fault { (source : _) (phases : _) → IsWidenErrorBy source phases error
+        → IsRewriteEnding (Widen phases) source result }
+    ensures stops { Stops result }
+    ensures judged { result ≢ Ending.ReadFault }
+{
+    match error {
+        WidenError::Source(error) => ending_of(error),
+        WidenError::Unable(fault) => Ending::Unable(fault),
+    }
+}
 
 // What a text is rewritten to.
 fn rewrite_text(alloc: Global, text: &[u8], how: Rewriting) -> Result<Rewritten, Ending>
@@ -33,9 +46,18 @@ fn rewrite_text(alloc: Global, text: &[u8], how: Rewriting) -> Result<Rewritten,
     ensures judged { result ≢ Err Ending.ReadFault }
 {
     match how {
-        Rewriting::Cut(levels) => cut_text(alloc, text, levels),
-        Rewriting::Narrow => narrow_text(alloc, text),
-        Rewriting::Widen(phases) => widen_text(alloc, text, phases),
+        Rewriting::Cut(levels) => match cut_reported(alloc, text, levels) {
+            Ok(cut) => Ok(cut),
+            Err(error) => Err(ending_of(error)),
+        },
+        Rewriting::Narrow => match narrow_reported(alloc, text) {
+            Ok(narrowed) => Ok(narrowed),
+            Err(error) => Err(ending_of(error)),
+        },
+        Rewriting::Widen(phases) => match widen_reported(alloc, text, phases) {
+            Ok(widened) => Ok(widened),
+            Err(error) => Err(ending_of_widen(error)),
+        },
     }
 }
 

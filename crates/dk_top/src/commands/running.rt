@@ -1,14 +1,12 @@
 //! `run`: the circuit of a program is clocked on a file of images.
 
-ghost use Rattle.std.specs.Prelude.{◌≡◌, ◌≤◌, ◌<◌, ◌^◌, ℕ, List, false, None, Some, Err, IfOk, IfErr, OnOk};
-ghost use Rattle.dk_base.specs.declared.TheConstants.{MAX_AGE, MAX_LATENCY, MAX_FILE_IMAGES};
-ghost use Rattle.dk_base.specs.Frames.{IsFrame};
-ghost use Rattle.dk_base.specs.FrameSizes.{size_of};
+ghost use Rattle.std.specs.Prelude.{◌≡◌, ◌≤◌, ℕ, List, false, None, Some, Err, IfOk, IfErr, OnOk};
+ghost use Rattle.dk_base.specs.declared.TheConstants.{MAX_AGE};
 ghost use Rattle.dk_desk.specs.Calls.{IsIfTold, OpensOnly};
 ghost use Rattle.dk_top.specs.Command.{run as run_command};
 ghost use Rattle.dk_compile.specs.Limits.{IsFaultAt};
 ghost use Rattle.dk_top.specs.Output.{output_file};
-ghost use Rattle.dk_top.specs.Compiling.{IsCompiledFrom, NotesRun, frame_drive};
+ghost use Rattle.dk_top.specs.Compiling.{IsCompiledFrom, NotesRun};
 ghost use Rattle.dk_top.specs.Verdict.{run_terms, IsAnswer, IsGoodPair, OfPair};
 ghost use Rattle.dk_top.specs.State.{IsFresh, LeavesText};
 ghost use Rattle.dk_top.specs.Streaming.{IsOnePort};
@@ -18,22 +16,21 @@ ghost use Rattle.dk_compile.specs.Fronts.{IsForm};
 ghost use Rattle.dk_top.specs.Reading.{ReadsAndNotes, OfFile, AreRead, IsSourceEnding, Stops, TellsRead, NotesOnly};
 
 use crate::commands::compiling::read_compiled;
-use crate::commands::streaming::{is_one_port, run_streamed};
+use crate::commands::streaming::run_streamed;
 use crate::files::write_file;
 use crate::laws::notes_agree_law;
 use crate::reading::read_images;
 use crate::work::Work;
-use cycle_sim::Fill;
-use dk_base::{FrameSize, OutOfMemory};
-use dk_compile::{Compiled, Options, drive_shows_law, one_at_age_law, one_source_law};
+use dk_base::OutOfMemory;
+use dk_compile::{Compiled, Options, drive_shows_law, is_one_port, one_at_age_law, one_source_law};
 use dk_desk::{Desk, InSlot, Stage};
 use dk_endings::Ending;
 use dk_words::RunWords;
 use netlist::Module;
 use pgm_rounds::Round;
 use std::alloc::{AllocError, Global};
-use stimulus::{BenchFault, Drive};
-use test_bench::run_bench;
+use stimulus::BenchFault;
+use test_bench::{frame_drive, run_bench};
 
 // The module that the Verilog text of a program denotes.
 pub fn read_again(alloc: Global, compiled: &Compiled) -> Result<Module, OutOfMemory>
@@ -44,22 +41,6 @@ pub fn read_again(alloc: Global, compiled: &Compiled) -> Result<Module, OutOfMem
         Ok(module) => Ok(module),
         // the text denotes a module, so only out of memory is left
         Err(_) => Err(AllocError),
-    }
-}
-
-// How the module of a plan is driven with a number of rounds of frames.
-fn drive_of(size: FrameSize, latency: u64, rounds: usize) -> Drive
-    requires latency { latency ≤ MAX_LATENCY }
-    requires rounds { rounds ≤ MAX_FILE_IMAGES }
-    requires frame { IsFrame size.width size.height }
-    ensures is { result ≡ frame_drive (size_of size) latency rounds }
-    ensures few { result.clocks < 2 ^ 60 }
-{
-    let area = u64::from(size.width) * u64::from(size.height);
-    Drive {
-        clocks: rounds as u64 * area + latency,
-        fill: Fill::Zeros,
-        hold: None,
     }
 }
 
@@ -89,7 +70,7 @@ pub fn clocked<D: Desk>(
     compiled.ir.law();
     compiled.plan.law();
     let size = compiled.ir.size();
-    let drive = drive_of(size, compiled.plan.latency(), rounds.len());
+    let drive = frame_drive(size, compiled.plan.latency(), rounds.len());
     match run_bench(alloc, desk, module, drive, size, rounds) {
         Ok(file) => Ok(file),
         Err(BenchFault::Stopped(_)) => unreachable!(),

@@ -1,16 +1,14 @@
 //! `sim`: any Verilog text of the subset is clocked on the images of a file. `trace` reads the same files.
 
-ghost use Rattle.std.specs.Prelude.{◌≡◌, ◌≢◌, ◌≤◌, ◌<◌, ◌^◌, ℕ, List, Option, Some, None, Err, true, IsSome, IfOk, IfErr, IfSome, IfNone, OnOk, length};
+ghost use Rattle.std.specs.Prelude.{◌≡◌, ◌≢◌, ◌≤◌, ◌<◌, ◌^◌, ℕ, List, Some, Err, IfOk, IfErr, IfSome, OnOk, length};
 ghost use Rattle.dk_base.specs.Frames.{IsFrame};
 ghost use Rattle.dk_base.specs.FrameSizes.{size_of};
 ghost use Rattle.dk_desk.specs.Calls.{IsIfTold, OpensOnly};
-ghost use Rattle.verilog_text.specs.Stands.{StandsFor};
-ghost use Rattle.verilog_text.specs.Faults.{IsFault, IsErrorBy};
 ghost use Rattle.cycle_sim.specs.Ports.{din_widths};
 ghost use Rattle.stimulus.specs.Given.{AreBenchFrames};
 ghost use Rattle.dk_words.specs.declared.command.PowerUp.{PowerUp as OnePower};
 ghost use Rattle.dk_top.specs.Command.{sim as sim_command};
-ghost use Rattle.dk_top.specs.Simulation.{drive_of, fill_of as fill_named, IsModuleOf, LacksEnable, IsSimulated};
+ghost use Rattle.dk_top.specs.Simulation.{drive_of, fill_of as fill_named, IsModuleOf, IsSimulated};
 ghost use Rattle.dk_top.specs.Verdict.{IsSimAnswer};
 ghost use Rattle.dk_top.specs.State.{AsksWhereModule, NotesSim, LeavesText, LeavesImages};
 ghost use Rattle.dk_top.specs.Simulating.{OfInput, IsModuleEnding, IsFileEnding, IsInput, IsInputEnding, IsSimInput};
@@ -19,7 +17,7 @@ ghost use Rattle.dk_top.specs.Reading.{LeavesInputs, ReadsInputs, OfFiles, OfFil
 use crate::files::{read_file, read_input, unread, write_file};
 use crate::work::Work;
 use cycle_sim::{Fill, dins_of};
-use dk_base::{MAX_PGM_BYTES, MAX_VERILOG_BYTES, Span};
+use dk_base::{MAX_PGM_BYTES, MAX_VERILOG_BYTES};
 use dk_desk::{Desk, InSlot, Stage};
 use dk_endings::{Ending, ImageFault, VerilogFault, VerilogKind};
 use dk_words::{PowerUp, SimWords};
@@ -28,40 +26,7 @@ use pgm_rounds::FileError;
 use std::alloc::Global;
 use stimulus::{BenchFault, BenchInput, Drive};
 use test_bench::run_bench;
-use verilog_read::name_span;
-use verilog_text::TextError;
-
-// How a call ends whose text denotes no module.
-fn ending_of(error: TextError) -> Ending
-    ensures fault { (hold : Option ℕ) (text : List ℕ)
-        → length text ≤ MAX_VERILOG_BYTES → IsErrorBy (IsFault text) error
-        → IsModuleEnding hold text result }
-    ensures stops { Stops result }
-    ensures judged { result ≢ Ending.ReadFault }
-{
-    match error {
-        TextError::Fault(fault) => Ending::Verilog(VerilogFault::of(fault)),
-        TextError::OutOfMemory => Ending::Memory,
-    }
-}
-
-// The name of the module, if clocks are to be held and it has no port `en`.
-fn lacking_enable(module: &Module, hold: Option<u32>, text: &[u8]) -> Option<Span>
-    requires { StandsFor text.now «module».now }
-    ensures lacks { IfSome result (LacksEnable hold text.now) }
-    ensures has { IfNone result (IsSome hold → «module».now.netlist.enable ≡ true) }
-{
-    match hold {
-        None => None,
-        Some(_) => {
-            if module.wiring().enable {
-                None
-            } else {
-                Some(name_span(text))
-            }
-        }
-    }
-}
+use verilog_read::{ModuleError, read_for};
 
 // The module of a text within its limit, which has the port `en` where clocks are to be held.
 fn module_of(alloc: Global, text: &[u8], hold: Option<u32>) -> Result<Module, Ending>
@@ -71,16 +36,14 @@ fn module_of(alloc: Global, text: &[u8], hold: Option<u32>) -> Result<Module, En
     ensures stops { IfErr result Stops }
     ensures judged { result ≢ Err Ending.ReadFault }
 {
-    let module = match verilog_read::read(alloc, text) {
-        Ok(module) => module,
-        Err(error) => return Err(ending_of(error)),
-    };
-    match lacking_enable(&module, hold, text) {
-        None => Ok(module),
-        Some(span) => Err(Ending::Verilog(VerilogFault::At {
+    match read_for(alloc, text, hold.is_some()) {
+        Ok(module) => Ok(module),
+        Err(ModuleError::Fault(fault)) => Err(Ending::Verilog(VerilogFault::of(fault))),
+        Err(ModuleError::NoEnable(span)) => Err(Ending::Verilog(VerilogFault::At {
             span,
             kind: VerilogKind::Ports,
         })),
+        Err(ModuleError::OutOfMemory) => Err(Ending::Memory),
     }
 }
 

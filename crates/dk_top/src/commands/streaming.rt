@@ -1,7 +1,7 @@
 //! `run` of a program with one input and one output: its images are read, clocked and written line by line.
 
-ghost use Rattle.std.specs.Prelude.{◌≡◌, ◌≢◌, ℕ, ◌≤◌, ◌-◌, ◌^◌, List, false, None, Err, IsTrue, length, slice_index};
-ghost use Rattle.dk_base.specs.declared.TheConstants.{MAX_LATENCY, MAX_PORT_WIDTH};
+ghost use Rattle.std.specs.Prelude.{◌≡◌, ◌≢◌, ℕ, ◌≤◌, List, false, None};
+ghost use Rattle.dk_base.specs.declared.TheConstants.{MAX_LATENCY};
 ghost use Rattle.dk_compile.specs.Fronts.{IsForm};
 ghost use Rattle.dk_types.specs.Typed.{Typing};
 ghost use Rattle.row_stream.specs.Formats.{kind_of};
@@ -12,51 +12,13 @@ ghost use Rattle.dk_top.specs.Streams.{StreamsFrom, OfCompiled, RunsStream, Runs
 ghost use Rattle.dk_top.specs.Performing.{ReportsRead, ReportsWrite};
 
 use crate::laws::notes_agree_law;
-use dk_base::FrameSize;
 use dk_compile::{Compiled, drive_shows_law, one_at_age_law, one_source_law};
 use dk_desk::{Desk, InSlot, Stage};
 use dk_endings::{Ending, ImageFault};
 use netlist::Module;
 use pgm_rounds::one_file_law;
-use pointwise_ir::Program;
-use row_stream::{OutputFormat, Stream, StreamFault, streams_most};
+use row_stream::{Stream, StreamFault, din_bits, dout_bits, format_of, streams_most};
 use std::alloc::Global;
-
-// Whether the program has one input and one output.
-pub fn is_one_port(ir: &Program) -> bool
-    ensures yes { IsTrue result → (p : Typing) → IsForm p ir.now → IsOnePort p }
-    ensures no { (p : Typing) → IsForm p ir.now → IsOnePort p → IsTrue result }
-{
-    ir.inputs().len() == 1 && ir.outputs().len() == 1
-}
-
-// The bits of the din of a module with no port `en` and one din.
-fn din_bits(module: &Module) -> u8
-    requires { length «module».now.netlist.inputs ≡ 2 }
-    ensures { result ≡ slice_index «module».now.netlist.inputs 1 }
-{
-    module.wiring().inputs[1].bits()
-}
-
-// The bits of the dout of a module with one output.
-fn dout_bits(module: &Module) -> u8
-    requires { length «module».now.netlist.outputs ≡ 2 }
-    ensures { result ≡ slice_index «module».now.netlist.outputs 1 }
-{
-    module.wiring().outputs[1].bits()
-}
-
-// The images that a module with a dout of this width writes.
-fn format_of(size: FrameSize, bits: u8) -> OutputFormat
-    requires { bits ≤ MAX_PORT_WIDTH }
-    ensures size { result.size ≡ size }
-    ensures maxval { result.maxval ≡ 2 ^ bits - 1 }
-{
-    OutputFormat {
-        size,
-        maxval: ((1u32 << bits) - 1) as u16,
-    }
-}
 
 // Opens the images and streams them.
 fn stream_file<D: Desk>(

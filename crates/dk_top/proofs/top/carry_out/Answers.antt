@@ -1,11 +1,15 @@
-use Rattle.std.proofs.Common.{ap, Err, Some, ◌∙◌}
+use Rattle.std.proofs.Common.{ap, Err, Some, ◌∙◌, inl, inr, refl}
+use Rattle.dk_endings.specs.declared.ending.Ending.TheVariants as ending
 use Rattle.dk_words.specs.declared.command.Asked.{Asked}
 use Rattle.dk_top.specs.Command.{command_asked}
 use Rattle.dk_top.proofs.Performed.{as_named, refused}
 use Rattle.dk_top.proofs.top.carry_out.Goals as goal
 
-pub returns-in-Err-clause-performs : goal.returns-in-Err-clause-performs
-returns-in-Err-clause-performs g c = refused _ c.in-Err.ending (g.D.Desk.outside c.args.desk.now) c.requires (λ e. c.in-Err.ensures.usage (ap Err e)) c.in-Err.ensures.other
+pub returns-in-Err-Usage-clause-performs : goal.returns-in-Err-Usage-clause-performs
+returns-in-Err-Usage-clause-performs g c = refused _ ending.Usage (g.D.Desk.outside c.args.desk.now) c.requires (λ e. c.in-Err-Usage.ensures.none (ap Err c.in-Err-Usage.field-0-is)) (inl refl)
+
+pub returns-in-Err-OutOfMemory-clause-performs : goal.returns-in-Err-OutOfMemory-clause-performs
+returns-in-Err-OutOfMemory-clause-performs g c = refused _ ending.Memory (g.D.Desk.outside c.args.desk.now) c.requires (λ e. absurd (let apart : ⊥ = cc in apart)) (inr refl)
 
 pub returns-in-Ok-Run-clause-performs : goal.returns-in-Ok-Run-clause-performs
 returns-in-Ok-Run-clause-performs g c = as_named _ _ _ _ _ (c.in-Ok-Run.ensures.ok ∙ ap (λ (a : Asked). Some (command_asked a)) c.in-Ok-Run.field-0-is) c.performed.ensures.performs

@@ -1,0 +1,3 @@
+mod SimLemmas
+mod StreamOnce
+mod StreamFirst
