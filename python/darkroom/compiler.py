@@ -537,7 +537,7 @@ def cut(program: Program, levels: int) -> Cut:
 def narrow(program: Program) -> Narrowed:
     """The program with images of fewer bits, where an analysis of their values allows it."""
     text, answer = _rewrite(program, "narrow")
-    bits, before = _figures("narrow: bits ([0-9]+) from ([0-9]+)", answer)
+    bits, before = _figures(r"narrow: bits ([0-9]+) from ([0-9]+)(?:\nnarrow: wider:.*)?", answer)
     return Narrowed(text, program.width, program.height, _ports(program.inputs), _ports(program.outputs),
                     files=_files(program), bits=bits, before=before)
 

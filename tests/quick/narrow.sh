@@ -3,13 +3,13 @@
 # usage: tests/quick/narrow.sh PROGRAM
 . "$(dirname -- "$0")/cases.sh"
 
-# narrows NAME LINE PROGRAM: the program is narrowed into out.dk, and this line is printed
+# narrows NAME LINE PROGRAM: the program is narrowed into out.dk, and this line is printed first
 narrows() {
     cases=$((cases + 1))
     rm -f out.dk
     "$program" narrow "$3" out.dk >stdout 2>stderr
     got=$?
-    if [ "$got" != 0 ] || [ -s stderr ] || [ "$(cat stdout)" != "$2" ]; then
+    if [ "$got" != 0 ] || [ -s stderr ] || [ "$(sed 1q stdout)" != "$2" ]; then
         wrong "$1: status $got, '$(cat stdout)', '$(cat stderr)', expected '$2'"
     fi
 }
@@ -29,6 +29,12 @@ while IFS=$tab read -r name line text wanted <&3; do
     narrows "$name, narrowed again" "narrow: bits $(bits wanted.dk) from $(bits wanted.dk)" wanted.dk
     is "$name: a narrowed text was changed" cmp -s out.dk wanted.dk
 done 3<"$tests/calls/narrows.txt"
+
+# The second line names the images that have more bits than their values need: g has 10 bits after it, and the sums of two of its pixels are at most 2,040, in 11 bits, but the output f keeps its 12.
+printf '%s' 'size 4 1 input a:u8 let g = im(x,y) a(x,y)+a(x-1,y)+a(x-2,y)+a(x-3,y) end let f = im(x,y) g(x,y)+g(x-1,y) end output f' >text.dk
+cases=$((cases + 1))
+"$program" narrow text.dk out.dk >stdout 2>stderr
+is "the images of more bits are '$(sed 1d stdout)'" [ "$(sed 1d stdout)" = 'narrow: wider: f output' ]
 
 # The examples show the same pictures, with no more bits.
 while read -r name input <&3; do

@@ -1,5 +1,5 @@
 -- Texts that a source is narrowed to.
-use Rattle.std.proofs.Common.{◌≡◌, refl, inl, inr, arith, ℕ, ◌≤◌, List, slice_get, Some, sym, subst, ◌∙◌}
+use Rattle.std.proofs.Common.{◌≡◌, refl, true, false, inl, inr, arith, ℕ, ◌≤◌, List, slice_get, Some, sym, subst, ◌∙◌}
 use Rattle.dk_base.specs.declared.ty.Ty.{Ty}
 use Rattle.dk_base.specs.Types.{width_of}
 use Rattle.dk_types.specs.Typed.{Typing, types_of}
@@ -12,7 +12,10 @@ use Rattle.dk_compile.specs.Sources.{IsAccepted}
 use Rattle.dk_compile.specs.Limits.{IsAcceptedAt}
 use Rattle.dk_compile.specs.Compiled.{IsPlanned, HasLeastBits}
 use Rattle.dk_compile.specs.Judged.{HasForm}
-use Rattle.dk_compile.specs.Narrowed.{AreNoWider, IsOneNarrower, HasNoMoreBits, IsNarrowed, NarrowsForm}
+use Rattle.value_ranges.specs.declared.wider.WiderImage.{WiderImage}
+use Rattle.value_ranges.specs.Wider.{wider_of}
+use Rattle.dk_compile.specs.Fronts.{HasOwnBodies}
+use Rattle.dk_compile.specs.Narrowed.{AreNoWider, IsOneNarrower, HasNoMoreBits, IsNarrowed, NarrowsForm, HasWiderImages, AreWiderImages}
 use Rattle.dk_compile.proofs.Same.{same_of_forms}
 
 -- of each image by its number
@@ -78,3 +81,45 @@ narrowed_itself source text p accepted same = subst (λ (t : List ℕ). IsNarrow
 -- equal texts have the same bits
 pub same_bits : (text shown : List ℕ) (bits : ℕ) → HasLeastBits shown bits → shown ≡ text → HasLeastBits text bits
 same_bits text shown bits has same = subst (λ (t : List ℕ). HasLeastBits t bits) same has
+
+-- a planned text's form has its own bodies
+pub planned_own : (text : List ℕ) (p : Typing) (ir : Program) (s : System) (x : Solution) (plan : Plan) → IsPlanned text 0 p ir s x plan → HasOwnBodies p ir
+planned_own text p ir s x plan is = is.has.front.bodies
+
+wider_by : (source text : List ℕ) (p : Typing) (old : Program) (wider : List WiderImage) → HasForm source p old → HasOwnBodies p old → HasWiderImages old text wider → AreWiderImages source text wider
+wider_by source text p old wider has own is = record {
+  old = p;
+  new = is.program;
+  before = old;
+  after = is.new;
+  was = has;
+  was_own = own;
+  is = is.has;
+  is_own = is.own;
+  is_same = false;
+  same = λ e. absurd (let f : ⊥ = cc in f);
+  narrower = λ e. is.narrower;
+  images_are = is.images_are;
+}
+
+pub wider_of_text : (source text shown : List ℕ) (p : Typing) (old : Program) (wider : List WiderImage) → HasForm source p old → HasOwnBodies p old → HasWiderImages old shown wider → shown ≡ text → AreWiderImages source text wider
+wider_of_text source text shown p old wider has own is same = subst (λ (t : List ℕ). AreWiderImages source t wider) same (wider_by source shown p old wider has own is)
+
+wider_same : (source : List ℕ) (p : Typing) (old : Program) (wider : List WiderImage) → HasForm source p old → HasOwnBodies p old → wider ≡ wider_of old old true → AreWiderImages source source wider
+wider_same source p old wider has own are = record {
+  old = p;
+  new = p;
+  before = old;
+  after = old;
+  was = has;
+  was_own = own;
+  is = has;
+  is_own = own;
+  is_same = true;
+  same = λ e. refl;
+  narrower = λ e. absurd (let f : ⊥ = cc in f);
+  images_are = are;
+}
+
+pub wider_itself : (source text : List ℕ) (p : Typing) (old : Program) (wider : List WiderImage) → HasForm source p old → HasOwnBodies p old → wider ≡ wider_of old old true → text ≡ source → AreWiderImages source text wider
+wider_itself source text p old wider has own are same = subst (λ (t : List ℕ). AreWiderImages source t wider) (sym same) (wider_same source p old wider has own are)

@@ -9,6 +9,7 @@ pub mod Cuts
 pub mod Judged
 pub mod Widened
 pub mod Narrowed
+pub mod NarrowLines
 pub mod Correct
 pub mod Reported
 pub mod Ports

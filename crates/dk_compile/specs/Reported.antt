@@ -5,7 +5,10 @@ use Rattle.body_cuts.specs.declared.uncut.Reason.TheVariants.{Operator, Limit, N
 use Rattle.dk_compile.specs.declared.measures.DeepBody.{DeepBody}
 use Rattle.dk_compile.specs.declared.measures.Measures.{Measures}
 use Rattle.dk_compile.specs.declared.widening.WideMeasures.{WideMeasures}
+use Rattle.value_ranges.specs.declared.wider.WiderImage.{WiderImage}
 use Rattle.dk_compile.specs.Compiled.{HasLeastBits}
+use Rattle.dk_compile.specs.Narrowed.{AreWiderImages}
+use Rattle.dk_compile.specs.NarrowLines.{wider_line}
 use Rattle.dk_compile.specs.Cuts.{HasMeasures}
 use Rattle.dk_compile.specs.Widened.{HasWideMeasures}
 
@@ -34,18 +37,20 @@ pub record AreCutLines (text : List ℕ) (most : ℕ) (lines : List ℕ) : Type 
   pub measured : HasMeasures text most measures
   pub lines_are : lines ≡ cut_lines most measures
 
--- the line of a text that was narrowed: its least buffer bits, and those of the source
+-- the first line of a text that was narrowed: its least buffer bits, and those of the source
 abbrev pub narrow_line : (bits before : ℕ) → List ℕ
 narrow_line bits before = codes "narrow: bits " ++ decimal bits ++ codes " from " ++ decimal before ++ codes "\n"
 
--- the line reports the least buffer bits of the text and of the source at age 0
-pub record IsNarrowLine (source text line : List ℕ) : Type 0 where
+-- the lines report the least buffer bits of the text and of the source at age 0, and the images of the text that have more bits than their values need
+pub record AreNarrowLines (source text lines : List ℕ) : Type 0 where
   pub bits : ℕ
   pub before : ℕ
+  pub wider : List WiderImage
   pub has : HasLeastBits text bits
   pub had : HasLeastBits source before
   pub fewer : bits ≤ before
-  pub line_is : line ≡ narrow_line bits before
+  pub wider_are : AreWiderImages source text wider
+  pub lines_are : lines ≡ narrow_line bits before ++ wider_line wider
 
 -- the line of a text that was widened: its definitions, its least buffer bits, and those of the source
 abbrev pub widen_line : WideMeasures → List ℕ

@@ -4,13 +4,15 @@ ghost use Rattle.std.specs.Prelude.{◌≡◌, ◌≤◌, ◌++◌, IfOk, IfErr,
 ghost use Rattle.dk_types.specs.Typed.{Typing};
 ghost use Rattle.dk_compile.specs.Cuts.{IsCutOf};
 ghost use Rattle.dk_compile.specs.Limits.{IsAcceptedAt, IsFaultAt};
+ghost use Rattle.dk_compile.specs.NarrowLines.{wider_line};
 ghost use Rattle.dk_compile.specs.Narrowed.{IsNarrowed};
-ghost use Rattle.dk_compile.specs.Reported.{AreCutLines, IsNarrowLine, IsWidenLine, cut_lines, narrow_line, widen_line, over_line, deep_words, reason_word as word_of_reason};
+ghost use Rattle.dk_compile.specs.Reported.{AreCutLines, AreNarrowLines, IsWidenLine, cut_lines, narrow_line, widen_line, over_line, deep_words, reason_word as word_of_reason};
 ghost use Rattle.dk_compile.specs.Sources.{IsErrorBy};
 ghost use Rattle.dk_compile.specs.Widened.{IsAble, IsWidened, IsWidenErrorBy};
 
 use crate::{
-    DeepBody, Measures, Reason, SourceError, WideMeasures, WidenError, cut, narrow, widen,
+    DeepBody, Measures, NarrowText, Reason, SourceError, WideMeasures, WidenError, cut, narrow,
+    push_wider, widen,
 };
 use dk_base::OutOfMemory;
 use itoa::Buffer;
@@ -94,17 +96,19 @@ fn lines_of_cut(alloc: Global, most: u8, measures: &Measures) -> Result<Vec<u8>,
     Ok(lines)
 }
 
-// The line of a text that was narrowed.
-fn line_of_narrow(alloc: Global, bits: u64, before: u64) -> Result<Vec<u8>, OutOfMemory>
-    ensures { IfOk result (λ line. line.items ≡ narrow_line bits before) }
+// The lines of a text that was narrowed.
+fn lines_of_narrow(alloc: Global, found: &NarrowText) -> Result<Vec<u8>, OutOfMemory>
+    ensures { IfOk result (λ lines. lines.items
+        ≡ narrow_line found.now.bits found.now.bits_before ++ wider_line found.now.wider.items) }
 {
-    let mut line = Vec::new(alloc);
-    line.extend_from_slice(b"narrow: bits ")?;
-    push_number(&mut line, bits)?;
-    line.extend_from_slice(b" from ")?;
-    push_number(&mut line, before)?;
-    line.extend_from_slice(b"\n")?;
-    Ok(line)
+    let mut lines = Vec::new(alloc);
+    lines.extend_from_slice(b"narrow: bits ")?;
+    push_number(&mut lines, found.bits)?;
+    lines.extend_from_slice(b" from ")?;
+    push_number(&mut lines, found.bits_before)?;
+    lines.extend_from_slice(b"\n")?;
+    push_wider(&mut lines, &found.wider)?;
+    Ok(lines)
 }
 
 // The line of a text that was widened.
@@ -137,15 +141,15 @@ pub fn cut_reported(alloc: Global, source: &[u8], levels: u8) -> Result<Rewritte
     })
 }
 
-/// What a text is narrowed to, as `narrow` does it, with the line that reports it.
+/// What a text is narrowed to, as `narrow` does it, with the lines that report it.
 pub fn narrow_reported(alloc: Global, source: &[u8]) -> Result<Rewritten, SourceError>
     ensures narrowed { IfOk result (λ r. IsNarrowed source.now r.text.items) }
-    ensures lines { IfOk result (λ r. IsNarrowLine source.now r.text.items r.lines.items) }
+    ensures lines { IfOk result (λ r. AreNarrowLines source.now r.text.items r.lines.items) }
     ensures good { OnOk result ((p : Typing) × IsAcceptedAt source.now 0 p) }
     ensures fault { IfErr result (IsErrorBy (IsFaultAt source.now 0)) }
 {
     let found = narrow(alloc, source)?;
-    let lines = line_of_narrow(alloc, found.bits, found.bits_before)?;
+    let lines = lines_of_narrow(alloc, &found)?;
     Ok(Rewritten {
         text: found.text,
         lines,

@@ -6,7 +6,7 @@ use Rattle.dk_words.specs.declared.command.Rewriting.TheVariants.{Cut, Narrow, W
 use Rattle.dk_compile.specs.Cuts.{IsCutOf}
 use Rattle.dk_compile.specs.Narrowed.{IsNarrowed}
 use Rattle.dk_compile.specs.Widened.{IsWidened}
-use Rattle.dk_compile.specs.Reported.{AreCutLines, IsNarrowLine, IsWidenLine}
+use Rattle.dk_compile.specs.Reported.{AreCutLines, AreNarrowLines, IsWidenLine}
 
 -- the text is what the source is rewritten to
 abbrev pub IsRewriteOf : Rewriting → (source text : List ℕ) → Type 0
@@ -17,7 +17,7 @@ IsRewriteOf (Widen phases) source text = IsWidened source phases text
 -- the lines report the text that the source was rewritten to
 abbrev pub AreRewriteLines : Rewriting → (source text lines : List ℕ) → Type 0
 AreRewriteLines (Cut levels) source text lines = AreCutLines text levels lines
-AreRewriteLines Narrow source text lines = IsNarrowLine source text lines
+AreRewriteLines Narrow source text lines = AreNarrowLines source text lines
 AreRewriteLines (Widen phases) source text lines = IsWidenLine source text lines
 
 -- The lines are those of a text that the source was rewritten to. If the desk specifies File, it is the text that File holds.

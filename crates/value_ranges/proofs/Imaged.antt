@@ -1,6 +1,9 @@
 -- The intervals of images, one after another.
-use Rattle.std.proofs.Common.{◌≡◌, ℕ, zero, suc, ◌+◌, ◌<◌, ℤ, List, [], ◌∷◌, ◌++◌, length, map, Some, slice_get, refl, ap, sym, ◌∙◌, subst, arith, inl, inr}
+use Rattle.std.proofs.Common.{◌≡◌, ℕ, zero, suc, ◌+◌, ◌<◌, ℤ, List, [], ◌∷◌, ◌++◌, length, map, take, Some, slice_get, refl, ap, sym, ◌∙◌, subst, arith, inl, inr}
 use Rattle.std.specs.Option.{option_map}
+use Rattle.std.proofs.lemmas.List.{map-append}
+use Rattle.std.proofs.Math.Numerals.{add-one}
+use Rattle.std.proofs.lemmas.List.Sums.{fold-append}
 use Rattle.std.proofs.lemmas.Option.{slice_get-map, slice_get_within, get_or_from_slice_get}
 use Rattle.dk_base.specs.declared.ty.Ty.{Ty}
 use Rattle.dk_base.specs.declared.ty.Ty.TheVariants.{Unsigned, Signed}
@@ -16,6 +19,7 @@ use Rattle.pointwise_ir.proofs.Pictured.{first_pictures, picture_of_body, values
 use Rattle.value_ranges.specs.declared.interval.Interval.{Interval}
 use Rattle.value_ranges.specs.Intervals.{IsBetween}
 use Rattle.value_ranges.specs.Parts.{AreBetween}
+use Rattle.value_ranges.specs.Ranges.{type_range, interval_of, image_interval, intervals_from}
 use Rattle.value_ranges.specs.Images.{AreRangesOf, HoldTypes}
 
 pub port_type : (t : Ty) → IsPort t → IsType t
@@ -81,3 +85,26 @@ images_more p ranges k d r ok long there made before round is g q found x y = el
       let R : Interval → Type 0 = λ s. IsBetween s (picture_at known g x y) in
       subst R last.1 (subst Q (sym (last.0 ∙ long)) (subst P (sym same) own))
 ]
+
+-- the first items of a list and one more
+take_more : {A : Type 0} (xs : List A) (k : ℕ) (x : A) → slice_get xs k ≡ Some x → take (suc k) xs ≡ take k xs ++ x ∷ []
+take_more [] k x at = absurd (let f : ⊥ = cc in f)
+take_more (y ∷ ys) zero x at = let e : y ≡ x = cc in ap (λ z. z ∷ []) e
+take_more (y ∷ ys) (suc k) x at = ap (λ zs. y ∷ zs) (take_more ys k x at)
+
+take_step : {A : Type 0} (xs : List A) (k : ℕ) (x : A) → slice_get xs k ≡ Some x → take (k + 1) xs ≡ take k xs ++ x ∷ []
+take_step xs k x at = ap (λ (n : ℕ). take n xs) (add-one k) ∙ take_more xs k x at
+
+pub input_more : (inputs : List Input) (ranges new : List Interval) (k : ℕ) (input : Input) (r : Interval) → slice_get inputs k ≡ Some input → r ≡ type_range input.ty → ranges ≡ map (λ (i : Input). type_range i.ty) (take k inputs) → new ≡ ranges ++ r ∷ [] →
+    new ≡ map (λ (i : Input). type_range i.ty) (take (k + 1) inputs)
+input_more inputs ranges new k input r at is before more =
+    let f : Input → Interval = λ (i : Input). type_range i.ty in
+    more ∙ ap (λ (l : List Interval). l ++ r ∷ []) before ∙ ap (λ (q : Interval). map f (take k inputs) ++ q ∷ []) is ∙ sym (map-append f (take k inputs) (input ∷ [])) ∙ sym (ap (map f) (take_step inputs k input at))
+
+pub image_more : (start : List Interval) (images : List Definition) (ranges new : List Interval) (k : ℕ) (d : Definition) (r : Interval) → slice_get images k ≡ Some d → r ≡ image_interval d.ty (interval_of ranges (tree_of d.body)) → ranges ≡ intervals_from start (take k images) → new ≡ ranges ++ r ∷ [] →
+    new ≡ intervals_from start (take (k + 1) images)
+image_more start images ranges new k d r at is before more =
+    let one : List Interval → List Interval = λ l. l ++ image_interval d.ty (interval_of l (tree_of d.body)) ∷ [] in
+    more ∙ ap (λ (q : Interval). ranges ++ q ∷ []) is ∙ ap one before
+    ∙ sym (fold-append (λ (l : List Interval) (d : Definition). l ++ image_interval d.ty (interval_of l (tree_of d.body)) ∷ []) start (take k images) (d ∷ []))
+    ∙ sym (ap (intervals_from start) (take_step images k d at))

@@ -2,3 +2,5 @@ pub mod Ends
 pub mod Fewest
 pub mod Ranged
 pub mod Imaged
+mod Spans
+mod Widened

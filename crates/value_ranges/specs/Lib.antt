@@ -1,3 +1,5 @@
 pub mod Intervals
+pub mod Ranges
 pub mod Parts
 pub mod Images
+pub mod Wider

@@ -6,20 +6,25 @@ ghost use Rattle.dk_base.specs.Types.{IsType};
 ghost use Rattle.dk_base.specs.Numbers.{saturate as saturated, wrap as cut};
 ghost use Rattle.dk_base.specs.Operators.{unary_value, binary_value, scaling_value, conversion_value, truth};
 ghost use Rattle.value_ranges.specs.Intervals.{IsBetween};
+ghost use Rattle.value_ranges.specs.Ranges.{spanning, multiples_by, products, truth_values, common_bits_of, all_bits_of, binary_interval, differences_from, magnitudes, unary_interval, scaling_interval, converted_interval, has_all, type_range, conversion_interval, join};
 
 use crate::interval::Interval;
-use dk_base::{Binary, Conversion, MAX_SHIFT, MAX_WIDTH, Scaling, Ty, Unary, saturate};
+use dk_base::{Binary, Conversion, MAX_SHIFT, MAX_WIDTH, Scaling, Ty, Unary, bits_for, saturate};
 
+#[tactic(auto, using(crate::proofs::Spans::span_some, crate::proofs::Spans::span_low, crate::proofs::Spans::span_high))]
 fn sum(left: Interval, right: Interval) -> Option<Interval>
-    ensures { IfSome result (λ r. (v u : ℤ) → IsBetween left v → IsBetween right u → IsBetween r (v +ℤ u)) }
+    ensures exact { result ≡ spanning (left.least +ℤ right.least) (left.greatest +ℤ right.greatest) }
+    ensures within { IfSome result (λ r. (v u : ℤ) → IsBetween left v → IsBetween right u → IsBetween r (v +ℤ u)) }
 {
     let least = left.least.checked_add(right.least)?;
     let greatest = left.greatest.checked_add(right.greatest)?;
     Some(Interval { least, greatest })
 }
 
+#[tactic(auto, using(crate::proofs::Spans::span_some, crate::proofs::Spans::span_low, crate::proofs::Spans::span_high))]
 fn difference(left: Interval, right: Interval) -> Option<Interval>
-    ensures { IfSome result (λ r. (v u : ℤ) → IsBetween left v → IsBetween right u → IsBetween r (v -ℤ u)) }
+    ensures exact { result ≡ spanning (left.least -ℤ right.greatest) (left.greatest -ℤ right.least) }
+    ensures within { IfSome result (λ r. (v u : ℤ) → IsBetween left v → IsBetween right u → IsBetween r (v -ℤ u)) }
 {
     let least = left.least.checked_sub(right.greatest)?;
     let greatest = left.greatest.checked_sub(right.least)?;
@@ -27,8 +32,10 @@ fn difference(left: Interval, right: Interval) -> Option<Interval>
 }
 
 // The products with one factor.
+#[tactic(auto, using(crate::proofs::Spans::pair_none_first, crate::proofs::Spans::pair_none_last))]
 fn multiples(factor: i128, range: Interval) -> Option<Interval>
-    ensures { IfSome result (λ r. (v : ℤ) → IsBetween range v → IsBetween r (factor *ℤ v)) }
+    ensures exact { result ≡ multiples_by factor range }
+    ensures within { IfSome result (λ r. (v : ℤ) → IsBetween range v → IsBetween r (factor *ℤ v)) }
 {
     let one = factor.checked_mul(range.least)?;
     let other = factor.checked_mul(range.greatest)?;
@@ -37,7 +44,8 @@ fn multiples(factor: i128, range: Interval) -> Option<Interval>
 
 // The products: the least and the greatest are among those of the ends.
 fn product(left: Interval, right: Interval) -> Option<Interval>
-    ensures { IfSome result (λ r. (v u : ℤ) → IsBetween left v → IsBetween right u → IsBetween r (v *ℤ u)) }
+    ensures exact { result ≡ products left right }
+    ensures within { IfSome result (λ r. (v u : ℤ) → IsBetween left v → IsBetween right u → IsBetween r (v *ℤ u)) }
 {
     let one = multiples(left.least, right)?;
     let other = multiples(left.greatest, right)?;
@@ -45,7 +53,8 @@ fn product(left: Interval, right: Interval) -> Option<Interval>
 }
 
 fn minimum(left: Interval, right: Interval) -> Interval
-    ensures { (v u : ℤ) → IsBetween left v → IsBetween right u → IsBetween result (int_min v u) }
+    ensures exact { result ≡ record { least = int_min left.least right.least; greatest = int_min left.greatest right.greatest } }
+    ensures within { (v u : ℤ) → IsBetween left v → IsBetween right u → IsBetween result (int_min v u) }
 {
     Interval {
         least: left.least.min(right.least),
@@ -54,7 +63,8 @@ fn minimum(left: Interval, right: Interval) -> Interval
 }
 
 fn maximum(left: Interval, right: Interval) -> Interval
-    ensures { (v u : ℤ) → IsBetween left v → IsBetween right u → IsBetween result (int_max v u) }
+    ensures exact { result ≡ record { least = int_max left.least right.least; greatest = int_max left.greatest right.greatest } }
+    ensures within { (v u : ℤ) → IsBetween left v → IsBetween right u → IsBetween result (int_max v u) }
 {
     Interval {
         least: left.least.max(right.least),
@@ -65,7 +75,8 @@ fn maximum(left: Interval, right: Interval) -> Interval
 // The results of comparisons.
 #[tactic(auto, using(crate::proofs::Ends::truth_between))]
 fn truths() -> Interval
-    ensures { (is : Bool) → IsBetween result (truth is) }
+    ensures exact { result ≡ truth_values }
+    ensures within { (is : Bool) → IsBetween result (truth is) }
 {
     Interval {
         least: 0,
@@ -75,7 +86,8 @@ fn truths() -> Interval
 
 // The common bits of numbers that are not below 0: at most the lesser one.
 fn common_bits(left: Interval, right: Interval) -> Option<Interval>
-    ensures { IfSome result (λ r. (v u : ℤ) → IsBetween left v → IsBetween right u → IsBetween r (pos (bit_and (unsigned_abs v) (unsigned_abs u)))) }
+    ensures exact { result ≡ common_bits_of left right }
+    ensures within { IfSome result (λ r. (v u : ℤ) → IsBetween left v → IsBetween right u → IsBetween r (pos (bit_and (unsigned_abs v) (unsigned_abs u)))) }
 {
     if left.least < 0 || right.least < 0 {
         return None;
@@ -88,20 +100,22 @@ fn common_bits(left: Interval, right: Interval) -> Option<Interval>
 
 // The bits of either one of numbers that are not below 0: those of the greater one.
 fn either_bits(left: Interval, right: Interval) -> Option<Interval>
+    ensures exact { result ≡ all_bits_of (join left right) }
     ensures or { IfSome result (λ r. (v u : ℤ) → IsBetween left v → IsBetween right u → IsBetween r (pos (bit_or (unsigned_abs v) (unsigned_abs u)))) }
     ensures xor { IfSome result (λ r. (v u : ℤ) → IsBetween left v → IsBetween right u → IsBetween r (pos (bit_xor (unsigned_abs v) (unsigned_abs u)))) }
 {
     let both = left.join(right);
-    if both.least < 0 {
+    if both.least < 0 || both.greatest < 0 || i128::from(u64::MAX) < both.greatest {
         return None;
     }
-    let ty = both.least_type()?;
-    Some(Interval::of_type(ty))
+    let width = bits_for(both.greatest as u64);
+    Some(Interval::of_type(Ty::Unsigned(width)))
 }
 
 /// The values of an operator of two operands, from those of the operands. None where an end is beyond i128, or an operand of what works bit by bit may be below 0.
 pub fn binary_range(op: Binary, left: Interval, right: Interval) -> Option<Interval>
-    ensures { IfSome result (λ r. (v u : ℤ) → IsBetween left v → IsBetween right u → IsBetween r (binary_value op v u)) }
+    ensures exact { result ≡ binary_interval op left right }
+    ensures within { IfSome result (λ r. (v u : ℤ) → IsBetween left v → IsBetween right u → IsBetween r (binary_value op v u)) }
 {
     match op {
         Binary::Add => sum(left, right),
@@ -122,8 +136,10 @@ pub fn binary_range(op: Binary, left: Interval, right: Interval) -> Option<Inter
 }
 
 // The differences of a number and the values.
+#[tactic(auto, using(crate::proofs::Spans::span_some, crate::proofs::Spans::span_low, crate::proofs::Spans::span_high))]
 fn taken_from(value: i128, range: Interval) -> Option<Interval>
-    ensures { IfSome result (λ r. (v : ℤ) → IsBetween range v → IsBetween r (value -ℤ v)) }
+    ensures exact { result ≡ differences_from value range }
+    ensures within { IfSome result (λ r. (v : ℤ) → IsBetween range v → IsBetween r (value -ℤ v)) }
 {
     let least = value.checked_sub(range.greatest)?;
     let greatest = value.checked_sub(range.least)?;
@@ -131,8 +147,10 @@ fn taken_from(value: i128, range: Interval) -> Option<Interval>
 }
 
 // The absolute values.
+#[tactic(auto, using(crate::proofs::Spans::magnitudes_none))]
 fn magnitude(range: Interval) -> Option<Interval>
-    ensures { IfSome result (λ r. (v : ℤ) → IsBetween range v → IsBetween r (pos (unsigned_abs v))) }
+    ensures exact { result ≡ magnitudes range }
+    ensures within { IfSome result (λ r. (v : ℤ) → IsBetween range v → IsBetween r (pos (unsigned_abs v))) }
 {
     if 0 <= range.least {
         return Some(range);
@@ -149,7 +167,8 @@ fn magnitude(range: Interval) -> Option<Interval>
 
 /// The values of an operator of one operand, from those of the operand. None where an end is beyond i128.
 pub fn unary_range(op: Unary, operand: Interval) -> Option<Interval>
-    ensures { IfSome result (λ r. (v : ℤ) → IsBetween operand v → IsBetween r (unary_value op v)) }
+    ensures exact { result ≡ unary_interval op operand }
+    ensures within { IfSome result (λ r. (v : ℤ) → IsBetween operand v → IsBetween r (unary_value op v)) }
 {
     match op {
         Unary::Negate => taken_from(0, operand),
@@ -186,7 +205,8 @@ fn halved(value: i128, times: u64) -> i128
 
 /// The values of an operator of an operand and a number that the program writes, from those of the operand. None where the operator does not take the number, or an end is beyond i128.
 pub fn scaling_range(op: Scaling, operand: Interval, by: u64) -> Option<Interval>
-    ensures { IfSome result (λ r. (v : ℤ) → IsBetween operand v → IsBetween r (scaling_value op v by)) }
+    ensures exact { result ≡ scaling_interval op operand by }
+    ensures within { IfSome result (λ r. (v : ℤ) → IsBetween operand v → IsBetween r (scaling_value op v by)) }
 {
     match op {
         Scaling::Divide => quotients(operand, by),
@@ -196,7 +216,8 @@ pub fn scaling_range(op: Scaling, operand: Interval, by: u64) -> Option<Interval
 }
 
 fn quotients(range: Interval, by: u64) -> Option<Interval>
-    ensures { IfSome result (λ r. (v : ℤ) → IsBetween range v → IsBetween r (int_div v (pos by))) }
+    ensures exact { result ≡ scaling_interval Scaling.Divide range by }
+    ensures within { IfSome result (λ r. (v : ℤ) → IsBetween range v → IsBetween r (int_div v (pos by))) }
 {
     if by == 0 {
         return None;
@@ -208,7 +229,8 @@ fn quotients(range: Interval, by: u64) -> Option<Interval>
 }
 
 fn raised(range: Interval, by: u64) -> Option<Interval>
-    ensures { IfSome result (λ r. (v : ℤ) → IsBetween range v → IsBetween r (v *ℤ pos (2 ^ by))) }
+    ensures exact { result ≡ scaling_interval Scaling.ShiftLeft range by }
+    ensures within { IfSome result (λ r. (v : ℤ) → IsBetween range v → IsBetween r (v *ℤ pos (2 ^ by))) }
 {
     if MAX_SHIFT < by {
         return None;
@@ -218,7 +240,8 @@ fn raised(range: Interval, by: u64) -> Option<Interval>
 }
 
 fn lowered(range: Interval, by: u64) -> Option<Interval>
-    ensures { IfSome result (λ r. (v : ℤ) → IsBetween range v → IsBetween r (int_div_euclid v (pos (2 ^ by)))) }
+    ensures exact { result ≡ scaling_interval Scaling.ShiftRight range by }
+    ensures within { IfSome result (λ r. (v : ℤ) → IsBetween range v → IsBetween r (int_div_euclid v (pos (2 ^ by)))) }
 {
     if MAX_SHIFT < by {
         return None;
@@ -232,7 +255,8 @@ fn lowered(range: Interval, by: u64) -> Option<Interval>
 // The values, cut to those of a type by the nearest one.
 fn clamped(range: Interval, ty: Ty) -> Interval
     requires { IsType ty }
-    ensures { (v : ℤ) → IsBetween range v → IsBetween result (saturated ty v) }
+    ensures exact { result ≡ converted_interval Conversion.Saturate range ty }
+    ensures within { (v : ℤ) → IsBetween range v → IsBetween result (saturated ty v) }
 {
     Interval {
         least: saturate(range.least, ty),
@@ -243,7 +267,8 @@ fn clamped(range: Interval, ty: Ty) -> Interval
 // The values, where the type has all of them, else all values of the type.
 fn wrapped(range: Interval, ty: Ty) -> Interval
     requires { IsType ty }
-    ensures { (v : ℤ) → IsBetween range v → IsBetween result (cut ty v) }
+    ensures exact { result ≡ converted_interval Conversion.Cast range ty }
+    ensures within { (v : ℤ) → IsBetween range v → IsBetween result (cut ty v) }
 {
     if range.is_within(ty) {
         range
@@ -254,7 +279,8 @@ fn wrapped(range: Interval, ty: Ty) -> Interval
 
 /// Values brought into the range of a type. None where it is no type of values.
 pub fn conversion_range(how: Conversion, operand: Interval, ty: Ty) -> Option<Interval>
-    ensures { IfSome result (λ r. (v : ℤ) → IsBetween operand v → IsBetween r (conversion_value how ty v)) }
+    ensures exact { result ≡ conversion_interval how operand ty }
+    ensures within { IfSome result (λ r. (v : ℤ) → IsBetween operand v → IsBetween r (conversion_value how ty v)) }
 {
     let width = ty.width();
     if width < 1 || MAX_WIDTH < width {

@@ -1,10 +1,11 @@
 // The intervals of expressions.
 
-ghost use Rattle.std.specs.Prelude.{◌≡◌, ℤ, pos, IfSome, slice_get};
+ghost use Rattle.std.specs.Prelude.{◌≡◌, ℤ, pos, Some, None, IfSome, MatchOption, slice_get};
 ghost use Rattle.dk_base.specs.Frames.{Size, Picture};
 ghost use Rattle.pointwise_ir.specs.Trees.{tree_of};
 ghost use Rattle.pointwise_ir.specs.Meaning.{edged};
 ghost use Rattle.value_ranges.specs.Intervals.{IsBetween};
+ghost use Rattle.value_ranges.specs.Ranges.{edged_interval, interval_of};
 ghost use Rattle.value_ranges.specs.Parts.{IsRangeOf, IsRangeOfParts};
 
 use crate::arithmetic::{binary_range, conversion_range, scaling_range, unary_range};
@@ -20,6 +21,7 @@ pub struct Bounds {
 
 // The values of a picture that is read: where the edge is `Zero` also 0.
 fn edged_range(edge: Edge, range: Interval) -> Interval
+    ensures exact { result ≡ edged_interval edge range }
     ensures within { (v : ℤ) → IsBetween range v → IsBetween result v }
     ensures edged { (size : Size) (picture : Picture) → ((x y : ℤ) → IsBetween range (picture x y)) → (x y : ℤ) → IsBetween result (edged size edge picture x y) }
 {
@@ -30,7 +32,7 @@ fn edged_range(edge: Edge, range: Interval) -> Interval
 }
 
 // The interval of an image, where it is one of these.
-fn range_at(ranges: &[Interval], image: u32) -> Option<Interval>
+pub(crate) fn range_at(ranges: &[Interval], image: u32) -> Option<Interval>
     ensures { result ≡ slice_get ranges.now image }
 {
     let image = image as usize;
@@ -55,6 +57,7 @@ fn with_parts(whole: Interval, parts: Interval) -> Bounds
 
 /// The bounds of an expression, from the intervals of the images. None where it reads another image, or where an end is beyond i128.
 pub fn bounds_of(e: &Expr, ranges: &[Interval]) -> Option<Bounds>
+    ensures exact { MatchOption result (interval_of ranges.now (tree_of e.now) ≡ None) (λ b. interval_of ranges.now (tree_of e.now) ≡ Some b.whole) }
     ensures whole { IfSome result (λ b. IsRangeOf ranges.now (tree_of e.now) b.whole) }
     ensures parts { IfSome result (λ b. IsRangeOfParts ranges.now (tree_of e.now) b.parts) }
 {
@@ -104,7 +107,8 @@ pub fn bounds_of(e: &Expr, ranges: &[Interval]) -> Option<Bounds>
 
 /// The interval of an expression's values, from the intervals of the images. None where it reads another image, or where an end is beyond i128.
 pub fn range_of(e: &Expr, ranges: &[Interval]) -> Option<Interval>
-    ensures { IfSome result (λ r. IsRangeOf ranges.now (tree_of e.now) r) }
+    ensures exact { result ≡ interval_of ranges.now (tree_of e.now) }
+    ensures within { IfSome result (λ r. IsRangeOf ranges.now (tree_of e.now) r) }
 {
     let bounds = bounds_of(e, ranges)?;
     Some(bounds.whole)

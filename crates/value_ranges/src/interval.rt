@@ -3,6 +3,7 @@
 ghost use Rattle.std.specs.Prelude.{◌≡◌, ℤ, ◌↔◌, IsTrue, MatchOption};
 ghost use Rattle.dk_base.specs.Types.{IsType, IsIn};
 ghost use Rattle.value_ranges.specs.Intervals.{IsBetween, IsHeldBy, IsLeastType, HasNoType};
+ghost use Rattle.value_ranges.specs.Ranges.{only, type_range, join as joined, meet as common, has_all};
 
 use dk_base::{Ty, bits_for};
 
@@ -17,7 +18,8 @@ impl Interval {
     /// The values of a type.
     pub fn of_type(ty: Ty) -> Interval
         requires { IsType ty }
-        ensures { (v : ℤ) → IsBetween result v ↔ IsIn ty v }
+        ensures exact { result ≡ type_range ty }
+        ensures values { (v : ℤ) → IsBetween result v ↔ IsIn ty v }
     {
         Interval {
             least: ty.least(),
@@ -27,7 +29,8 @@ impl Interval {
 
     /// One value.
     pub fn of_value(value: i128) -> Interval
-        ensures { (v : ℤ) → IsBetween result v ↔ (v ≡ value) }
+        ensures exact { result ≡ only value }
+        ensures values { (v : ℤ) → IsBetween result v ↔ (v ≡ value) }
     {
         Interval {
             least: value,
@@ -38,6 +41,7 @@ impl Interval {
     /// Whether each value is one of the type.
     pub fn is_within(self, ty: Ty) -> bool
         requires { IsType ty }
+        ensures exact { result ≡ has_all ty self }
         ensures yes { IsTrue result → IsHeldBy self ty }
         ensures no { IsHeldBy self ty → IsTrue result }
     {
@@ -49,6 +53,7 @@ impl Interval {
 
     /// From the lesser of both least values to the greater of both greatest ones.
     pub fn join(self, other: Interval) -> Interval
+        ensures exact { result ≡ joined self other }
         ensures this { (v : ℤ) → IsBetween self v → IsBetween result v }
         ensures other { (v : ℤ) → IsBetween other v → IsBetween result v }
     {
@@ -60,6 +65,7 @@ impl Interval {
 
     /// The values that are in both.
     pub fn meet(self, other: Interval) -> Interval
+        ensures exact { result ≡ common self other }
         ensures this { (v : ℤ) → IsBetween result v → IsBetween self v }
         ensures other { (v : ℤ) → IsBetween result v → IsBetween other v }
         ensures both { (v : ℤ) → IsBetween self v → IsBetween other v → IsBetween result v }

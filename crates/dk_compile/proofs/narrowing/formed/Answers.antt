@@ -1,5 +1,5 @@
 use Rattle.dk_types.specs.Typed.{typing_of}
-use Rattle.dk_compile.proofs.Narrowed.{planned_form, planned_bits}
+use Rattle.dk_compile.proofs.Narrowed.{planned_form, planned_own, planned_bits}
 use Rattle.dk_compile.proofs.narrowing.formed.Goals as goal
 
 pub returns-clause-form : goal.returns-clause-form
@@ -20,3 +20,8 @@ returns-clause-good c =
     let found = c.in_ok-found.found in
     let p = typing_of found.program in
     (p, c.one_at_age_law.ensures.accepted c.args.text.now 0 p found.ir found.system found.solution found.plan c.in_ok-found.ensures.planned)
+
+pub returns-clause-own : goal.returns-clause-own
+returns-clause-own c =
+    let found = c.in_ok-found.found in
+    planned_own c.args.text.now (typing_of found.program) found.ir found.system found.solution found.plan c.in_ok-found.ensures.planned

@@ -2,5 +2,5 @@ use Rattle.std.proofs.Common.{rules}
 use Rattle.value_ranges.proofs.Ends.{greatest_between}
 use Rattle.value_ranges.proofs.arithmetic.maximum.Goals as goal
 
-pub returns : goal.returns
-returns c = λ v u is also. greatest_between c.args.left c.args.right _ v u (search rules) (search rules) is also
+pub returns-clause-within : goal.returns-clause-within
+returns-clause-within c = λ v u is also. greatest_between c.args.left c.args.right _ v u (search rules) (search rules) is also

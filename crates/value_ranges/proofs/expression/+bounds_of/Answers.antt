@@ -18,7 +18,7 @@ returns-in_ok-whole-in-Unary-clause-parts t c =
     let a = tree_of c.in-Unary.body.value in
     let body = rw c.deref-in-Unary.ensures at c.in_ok-operand-in-Unary.ensures.whole in
     let parts = rw c.deref-in-Unary.ensures at c.in_ok-operand-in-Unary.ensures.parts in
-    let whole = unary_whole ranges c.in-Unary.op a c.in_ok-operand-in-Unary.operand.whole c.in_ok-whole-in-Unary.whole c.in_ok-whole-in-Unary.ensures body in
+    let whole = unary_whole ranges c.in-Unary.op a c.in_ok-operand-in-Unary.operand.whole c.in_ok-whole-in-Unary.whole c.in_ok-whole-in-Unary.ensures.within body in
     rw c.in-Unary.is
     (unary_parts ranges c.in-Unary.op a c.in_ok-whole-in-Unary.whole c.in_ok-operand-in-Unary.operand.parts c.with_parts-in-Unary.result.parts whole c.with_parts-in-Unary.ensures.own parts c.with_parts-in-Unary.ensures.parts)
 
@@ -27,7 +27,7 @@ returns-in_ok-whole-in-Binary-clause-whole t c =
     let left = rw c.deref-in-Binary.ensures at c.in_ok-left-in-Binary.ensures.whole in
     let right = rw c.deref-in-Binary-2.ensures at c.in_ok-right-in-Binary.ensures.whole in
     rw (c.in-Binary.is, c.with_parts-in-Binary.ensures.whole)
-    (binary_whole c.args.ranges.now c.in-Binary.op (tree_of c.in-Binary.left.value) (tree_of c.in-Binary.right.value) c.in_ok-left-in-Binary.left.whole c.in_ok-right-in-Binary.right.whole c.in_ok-whole-in-Binary.whole c.in_ok-whole-in-Binary.ensures left right)
+    (binary_whole c.args.ranges.now c.in-Binary.op (tree_of c.in-Binary.left.value) (tree_of c.in-Binary.right.value) c.in_ok-left-in-Binary.left.whole c.in_ok-right-in-Binary.right.whole c.in_ok-whole-in-Binary.whole c.in_ok-whole-in-Binary.ensures.within left right)
 
 pub returns-in_ok-whole-in-Binary-clause-parts : goal.returns-in_ok-whole-in-Binary-clause-parts
 returns-in_ok-whole-in-Binary-clause-parts t c =
@@ -38,7 +38,7 @@ returns-in_ok-whole-in-Binary-clause-parts t c =
     let right = rw c.deref-in-Binary-2.ensures at c.in_ok-right-in-Binary.ensures.whole in
     let first = rw c.deref-in-Binary.ensures at c.in_ok-left-in-Binary.ensures.parts in
     let second = rw c.deref-in-Binary-2.ensures at c.in_ok-right-in-Binary.ensures.parts in
-    let whole = binary_whole ranges c.in-Binary.op a b c.in_ok-left-in-Binary.left.whole c.in_ok-right-in-Binary.right.whole c.in_ok-whole-in-Binary.whole c.in_ok-whole-in-Binary.ensures left right in
+    let whole = binary_whole ranges c.in-Binary.op a b c.in_ok-left-in-Binary.left.whole c.in_ok-right-in-Binary.right.whole c.in_ok-whole-in-Binary.whole c.in_ok-whole-in-Binary.ensures.within left right in
     rw c.in-Binary.is
     (binary_parts ranges c.in-Binary.op a b c.in_ok-whole-in-Binary.whole c.in_ok-left-in-Binary.left.parts c.in_ok-right-in-Binary.right.parts c.join.result c.with_parts-in-Binary.result.parts whole c.with_parts-in-Binary.ensures.own first second c.join.ensures.this c.join.ensures.other c.with_parts-in-Binary.ensures.parts)
 
@@ -72,7 +72,7 @@ returns-in_ok-whole-in-Convert-clause-parts t c =
     let a = tree_of c.in-Convert.body.value in
     let body = rw c.deref-in-Convert.ensures at c.in_ok-operand-in-Convert.ensures.whole in
     let parts = rw c.deref-in-Convert.ensures at c.in_ok-operand-in-Convert.ensures.parts in
-    let whole = convert_whole ranges c.in-Convert.how a c.in-Convert.ty c.in_ok-operand-in-Convert.operand.whole c.in_ok-whole-in-Convert.whole c.in_ok-whole-in-Convert.ensures body in
+    let whole = convert_whole ranges c.in-Convert.how a c.in-Convert.ty c.in_ok-operand-in-Convert.operand.whole c.in_ok-whole-in-Convert.whole c.in_ok-whole-in-Convert.ensures.within body in
     rw c.in-Convert.is
     (convert_parts ranges c.in-Convert.how a c.in-Convert.ty c.in_ok-whole-in-Convert.whole c.in_ok-operand-in-Convert.operand.parts c.with_parts-in-Convert.result.parts whole c.with_parts-in-Convert.ensures.own parts c.with_parts-in-Convert.ensures.parts)
 
@@ -82,6 +82,6 @@ returns-in_ok-whole-in-Scale-clause-parts t c =
     let a = tree_of c.in-Scale.body.value in
     let body = rw c.deref-in-Scale.ensures at c.in_ok-operand-in-Scale.ensures.whole in
     let parts = rw c.deref-in-Scale.ensures at c.in_ok-operand-in-Scale.ensures.parts in
-    let whole = scale_whole ranges c.in-Scale.op a c.in-Scale.by c.in_ok-operand-in-Scale.operand.whole c.in_ok-whole-in-Scale.whole c.in_ok-whole-in-Scale.ensures body in
+    let whole = scale_whole ranges c.in-Scale.op a c.in-Scale.by c.in_ok-operand-in-Scale.operand.whole c.in_ok-whole-in-Scale.whole c.in_ok-whole-in-Scale.ensures.within body in
     rw c.in-Scale.is
     (scale_parts ranges c.in-Scale.op a c.in-Scale.by c.in_ok-whole-in-Scale.whole c.in_ok-operand-in-Scale.operand.parts c.with_parts-in-Scale.result.parts whole c.with_parts-in-Scale.ensures.own parts c.with_parts-in-Scale.ensures.parts)
