@@ -5,6 +5,7 @@ file, even if it is interrupted.
 """
 from __future__ import annotations
 
+import fcntl
 import operator
 import os
 import re
@@ -317,6 +318,10 @@ def _end(process: subprocess.Popen[bytes]) -> None:
 def _in_memory(content: bytes = b"") -> Iterator[int]:
     """The descriptor of a file in memory with this content."""
     file = os.memfd_create("darkroom")
+    if file < 3:
+        # (a standard descriptor that is closed here: in `dk` it would be one of the pipes)
+        low, file = file, fcntl.fcntl(file, fcntl.F_DUPFD_CLOEXEC, 3)
+        os.close(low)
     try:
         with open(file, "wb", closefd=False) as writer:
             writer.write(content)
@@ -489,15 +494,26 @@ def compile(program: Program, path: AnyPath | None = None, enable: bool = False,
     return content.decode("ascii")
 
 
+def written(program: Program, path: AnyPath | None, text: str, inputs: Sequence[AnyPath] = ()) -> str:
+    """The text, which is also written to `path` if that is given.
+
+    Raises ValueError if `path` is a file that the program was made from, or one of `inputs`.
+    """
+    if path is not None:
+        _refuse_input(program, path, inputs)
+        save(path, text.encode("utf-8", "surrogateescape"))
+    return text
+
+
 def _files(program: Program) -> frozenset[str]:
     """The files that the program was made from."""
     files = program.files if isinstance(program, Text) else frozenset()
     return files | {source.file for source in program.sources.values()}
 
 
-def _refuse_input(program: Program, path: AnyPath) -> None:
+def _refuse_input(program: Program, path: AnyPath, inputs: Sequence[AnyPath] = ()) -> None:
     if os.path.exists(path):
-        for file in [*_files(program), str(find())]:
+        for file in [*_files(program), str(find()), *inputs]:
             if os.path.exists(file) and os.path.samefile(file, path):
                 raise ValueError(f"{os.fspath(path)!r} is an input of this call and would be overwritten")
 
