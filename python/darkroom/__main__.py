@@ -6,11 +6,12 @@ pictures, 130 for an interrupt, else 1. An output is never one of the inputs, an
 from __future__ import annotations
 
 import argparse
+import json
 import os
 import sys
 from typing import Callable, Mapping, NoReturn, Sequence
 
-from . import compiler, page, pictures, synthesis
+from . import compiler, page, pictures, synthesis, waves
 from .compiler import Failure, Fault, Text
 from .failures import MissingTool
 from .pictures import Array, PgmError, PictureError
@@ -44,6 +45,14 @@ def _place(words: argparse.Namespace) -> None:
     if words.seeds:
         placed = synthesis.place(verilog, words.device, words.seeds)
         print(f"{placed.device}: {', '.join(f'{rate:.1f}' for rate in placed.rates)} MHz ({placed.tool})", flush=True)
+
+
+def _waves(words: argparse.Namespace) -> None:
+    program = compiler.load(words.prog)
+    given = _first_round(program, words.pictures)
+    found = waves.trace(program, given, words.clocks, words.enable, words.age, words.block)
+    shown = found.wavedrom(words.show.split(",") if words.show else list(found.values), words.first, words.last)
+    compiler.written(program, words.json, json.dumps(shown, indent=1) + "\n", words.pictures)
 
 
 def _first_round(program: Text, files: Sequence[str]) -> Mapping[str, Array]:
@@ -88,12 +97,26 @@ def _parser() -> argparse.ArgumentParser:
     draw.add_argument("prog", metavar="PROG")
     draw.add_argument("svg", metavar="SVG")
     place = command(_place, "place", "counts the cells of the circuit by Yosys, and finds clock rates by nextpnr")
-    place.add_argument("--enable", action="store_true", help="with the port en")
-    place.add_argument("--block", type=_count, metavar="N", help="fits arrays of N words or more to block memory")
+    _add_circuit(place)
     place.add_argument("--device", choices=list(synthesis.DEVICES), default="HX8K")
     place.add_argument("--seeds", type=_count, default=1, metavar="N", help="seeds of nextpnr, by default 1; 0: cells only")
     place.add_argument("prog", metavar="PROG")
+    shown = command(_waves, "waves", "writes the values of ports and images clock by clock, for WaveDrom")
+    _add_circuit(shown)
+    shown.add_argument("--clocks", type=_count, metavar="C", help="clocks after the reset, by default those of one round")
+    shown.add_argument("--first", type=_count, default=0, metavar="T", help="the first time; 0 is the reset clock")
+    shown.add_argument("--last", type=_count, metavar="T", help="the last time")
+    shown.add_argument("--show", metavar="NAME,..", help="these ports and images only, from top to bottom")
+    shown.add_argument("prog", metavar="PROG")
+    shown.add_argument("pictures", metavar="IN", nargs="+", help="one PGM file for all inputs, or a file for each input")
+    shown.add_argument("json", metavar="JSON")
     return parser
+
+
+def _add_circuit(command: argparse.ArgumentParser) -> None:
+    """The options of `compile`."""
+    command.add_argument("--enable", action="store_true", help="with the port en")
+    command.add_argument("--block", type=_count, metavar="N", help="fits arrays of N words or more to block memory")
 
 
 def _line(text: str) -> str:

@@ -518,6 +518,19 @@ def _refuse_input(program: Program, path: AnyPath, inputs: Sequence[AnyPath] = (
                 raise ValueError(f"{os.fspath(path)!r} is an input of this call and would be overwritten")
 
 
+def trace(verilog: str, clocks: int, images: bytes) -> str:
+    """The value change dump of a Verilog text, driven over the images of a PGM file. `clocks` is 0 to 100,000,000.
+
+    Raises exceptions of `Failure`, with `Ended` if the text stops or is not in the subset.
+    """
+    count = _number("clocks", clocks, 0, 100_000_000)
+    with _in_memory(verilog.encode("ascii")) as file:
+        done = _call(["trace", f"/dev/fd/{file}", count, "/dev/stdin", "/dev/stdout"], [file], images)
+    if done.status:
+        raise _FAILURES.get(done.status, Ended)(done.status, done.line or f"status {done.status}")
+    return done.out.decode("ascii")
+
+
 # Other programs
 
 def _figures(form: str, answer: bytes) -> list[int]:

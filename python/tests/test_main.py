@@ -1,6 +1,7 @@
 """The commands of the package, as a user calls them: outputs, refusals in one line, and inputs that stay."""
 from __future__ import annotations
 
+import json
 import os
 import subprocess
 import sys
@@ -48,6 +49,14 @@ def test_look(folder: Path, given: Sequence[str]) -> None:
         assert caption in written
 
 
+def test_waves(folder: Path) -> None:
+    """The sums 31 and 42 in the clocks 0 and 1, which are the times 1 and 2."""
+    done = call(folder, "waves", "--show", "rst,f", "--first", "1", "--last", "2", "p.dk", "ab.pgm", "w.json")
+    assert (done.returncode, done.stdout, done.stderr) == (0, "", "")
+    assert json.loads((folder / "w.json").read_text()) == {
+        "signal": [{"name": "rst", "wave": "0."}, {"name": "f", "wave": "==", "data": ["31", "42"]}], "head": {"tick": 0}}
+
+
 def test_draw_writes_to_a_pipe(folder: Path) -> None:
     done = call(folder, "draw", "--age", "1", "p.dk", "/dev/stdout")
     assert done.returncode == 0 and done.stdout.startswith("<svg") and "age 1: " in done.stdout
@@ -72,6 +81,9 @@ REFUSED = [
     ("a text as a picture", ["look", "p.dk", "p.dk", "p.html"], 4),
     ("one of two pictures", ["look", "p.dk", "a.png", "p.html"], 1),
     ("three pictures", ["look", "p.dk", "a.png", "b.png", "a.png", "p.html"], 1),
+    ("waves of an unknown image", ["waves", "--show", "g", "p.dk", "ab.pgm", "w.json"], 1),
+    ("waves past the end", ["waves", "--last", "9", "p.dk", "ab.pgm", "w.json"], 1),
+    ("waves over a picture", ["waves", "p.dk", "ab.pgm", "ab.pgm"], 1),
     ("an unknown device", ["place", "--device", "HX1", "p.dk"], 2),
     ("a name with a line end", ["draw", "p\n.dk", "p.svg"], 1),
     ("a name that a terminal obeys", ["draw", "\x1b[31m.dk", "p.svg"], 1),
