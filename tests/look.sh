@@ -27,6 +27,19 @@ end
 is "the captions are $(tr '\n' '/' <got)" cmp -s got wanted
 is 'the page refers to another file' sh -c '! grep -qE "(src|href)=\"(http|[^d#])" p.html'
 is 'the bits or the latency are missing' grep -q '2 by 1 pixels, .* buffer bits at least, latency 0 clocks' p.html
+# an output that is an input, and a file that is missing: one line, and no file changes
+cat p.dk i.pgm >before
+refuses() {
+    ! "$@" >said 2>&1 && [ "$(wc -l <said)" = 1 ] && cat p.dk i.pgm | cmp -s - before
+}
+is 'look overwrites its program' refuses "$top/tools/look" --dk "$program" p.dk i.pgm ./p.dk
+is 'look overwrites its pictures' refuses "$top/tools/look" --dk "$program" p.dk i.pgm i.pgm
+is 'look does not name a missing file' refuses "$top/tools/look" --dk "$program" q.dk i.pgm q.html
+is 'png.py overwrites its input' refuses python3 "$top/tools/png.py" i.pgm i.pgm
+is 'png.py does not name a missing file' refuses python3 "$top/tools/png.py" q.pgm q.png
+is 'png.py takes any COLUMNS' refuses python3 "$top/tools/png.py" i.pgm q.png x
+is 'phases.py overwrites its input' refuses python3 "$top/tools/phases.py" split 2 i.pgm i.pgm
+is 'phases.py does not name a missing file' refuses python3 "$top/tools/phases.py" split 2 q.pgm o.pgm
 while read -r name input; do
     is "no page of $name" "$top/tools/look" --dk "$program" "$examples/programs/$name.dk" "$examples/programs/$input.pgm" "$name.html"
 done <"$examples/programs/pictures.txt"

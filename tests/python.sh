@@ -15,6 +15,7 @@ HYPOTHESIS_STORAGE_DIRECTORY=$work/hypothesis && export HYPOTHESIS_STORAGE_DIREC
 for python in python3 /usr/bin/python3; do
     "$python" -c 'import hypothesis, numpy, PIL, pytest' 2>/dev/null || continue
     CDPATH='' cd -- "${folder%/tests}/python" || exit 2
+    "$python" -c 'import jinja2' 2>/dev/null || echo 'python: Jinja2 is not installed, and the tests of figures were passed over'
     "$python" -m pytest -q -p no:cacheprovider tests >"$work/out" 2>&1 && exit 0
     cat "$work/out"
     exit 1

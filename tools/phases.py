@@ -9,6 +9,7 @@ usage: tools/phases.py split P IN OUT
        tools/phases.py check            tries both on images worked out by hand and on random ones
 """
 import array
+import os
 import random
 import re
 import sys
@@ -90,6 +91,8 @@ def main(words):
         return check()
     if len(words) != 4 or words[0] not in ("split", "join") or not re.fullmatch("[2-8]", words[1]):
         sys.exit("usage: tools/phases.py split P IN OUT | join P IN OUT | check")
+    if os.path.exists(words[3]) and os.path.exists(words[2]) and os.path.samefile(words[2], words[3]):
+        sys.exit(f"phases: the output {words[3]} is an input, and would be overwritten")
     with open(words[2], "rb") as file:
         pictures = images(file.read())
     content = file_of((split if words[0] == "split" else join)(pictures, int(words[1])))
@@ -98,4 +101,7 @@ def main(words):
 
 
 if __name__ == "__main__":
-    main(sys.argv[1:])
+    try:
+        main(sys.argv[1:])
+    except OSError as error:
+        sys.exit(f"phases: {error.strerror}: {error.filename}")

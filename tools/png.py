@@ -7,6 +7,7 @@ colour, and these are placed so.
 
 usage: tools/png.py [--colour] PGM PNG [COLUMNS]      COLUMNS is 1 by default
 """
+import os
 import re
 import struct
 import sys
@@ -109,13 +110,35 @@ def show(pgm, target, columns, colour=False):
         file.write(png(sheet(pictures, columns), 3 if colour else 1))
 
 
+def refuse_input(tool, target, *inputs):
+    """Ends with one line if the output is one of the inputs, which would be lost."""
+    for name in inputs:
+        if os.path.exists(target) and os.path.exists(name) and os.path.samefile(name, target):
+            sys.exit(f"{tool}: the output {target} is an input, and would be overwritten")
+
+
+def in_one_line(tool, run, *words):
+    """Runs a script. A file that cannot be read or written is named in one line."""
+    try:
+        run(*words)
+        sys.stdout.flush()
+    except OSError as error:
+        if isinstance(error, BrokenPipeError):
+            # (what is left for standard output would be written at the end, and fail again)
+            os.dup2(os.open(os.devnull, os.O_WRONLY), 1)
+        sys.exit(f"{tool}: {error.strerror}: {error.filename or 'standard output'}")
+
+
 def main(words):
     colour = words[:1] == ["--colour"]
     words = words[colour:]
     if len(words) not in (2, 3):
         sys.exit(__doc__)
+    if not re.fullmatch("[1-9][0-9]{0,5}", words[2] if words[2:] else "1"):
+        sys.exit("png: COLUMNS is a number from 1")
+    refuse_input("png", words[1], words[0])
     show(words[0], words[1], int(words[2]) if words[2:] else 1, colour)
 
 
 if __name__ == "__main__":
-    main(sys.argv[1:])
+    in_one_line("png", main, sys.argv[1:])

@@ -56,6 +56,16 @@ class Commands:
         from . import compiler
         return compiler.compile(self, path, enable=enable, age=age, block=block)
 
+    def draw(self: compiler.Program, path: AnyPath | None = None, *, age: int = 0) -> str:
+        """The plan as SVG: line buffers as bars, live reads as arrows. It is also written to `path`."""
+        from . import compiler, drawing
+        return compiler.written(self, path, drawing.draw(compiler.plan(self, age), compiler.nets(self, age=age)))
+
+    def look(self: compiler.Program, path: AnyPath | None, *pictures: Pictures, age: int = 0, **named: Array) -> str:
+        """One HTML page with the picture of each kept image, the plan and the text. It is also written to `path`."""
+        from . import compiler, page
+        return compiler.written(self, path, page.page(self, _pictures(pictures, named), age=age))
+
     def cut(self: compiler.Program, levels: int) -> compiler.Cut:
         """The program with bodies of at most `levels` levels of operators, for a higher clock rate (docs/CUT.md)."""
         from . import compiler

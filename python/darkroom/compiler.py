@@ -5,6 +5,7 @@ file, even if it is interrupted.
 """
 from __future__ import annotations
 
+import fcntl
 import operator
 import os
 import re
@@ -317,6 +318,10 @@ def _end(process: subprocess.Popen[bytes]) -> None:
 def _in_memory(content: bytes = b"") -> Iterator[int]:
     """The descriptor of a file in memory with this content."""
     file = os.memfd_create("darkroom")
+    if file < 3:
+        # (a standard descriptor that is closed here: in `dk` it would be one of the pipes)
+        low, file = file, fcntl.fcntl(file, fcntl.F_DUPFD_CLOEXEC, 3)
+        os.close(low)
     try:
         with open(file, "wb", closefd=False) as writer:
             writer.write(content)
@@ -489,17 +494,41 @@ def compile(program: Program, path: AnyPath | None = None, enable: bool = False,
     return content.decode("ascii")
 
 
+def written(program: Program, path: AnyPath | None, text: str, inputs: Sequence[AnyPath] = ()) -> str:
+    """The text, which is also written to `path` if that is given.
+
+    Raises ValueError if `path` is a file that the program was made from, or one of `inputs`.
+    """
+    if path is not None:
+        _refuse_input(program, path, inputs)
+        save(path, text.encode("utf-8", "surrogateescape"))
+    return text
+
+
 def _files(program: Program) -> frozenset[str]:
     """The files that the program was made from."""
     files = program.files if isinstance(program, Text) else frozenset()
     return files | {source.file for source in program.sources.values()}
 
 
-def _refuse_input(program: Program, path: AnyPath) -> None:
+def _refuse_input(program: Program, path: AnyPath, inputs: Sequence[AnyPath] = ()) -> None:
     if os.path.exists(path):
-        for file in [*_files(program), str(find())]:
+        for file in [*_files(program), str(find()), *inputs]:
             if os.path.exists(file) and os.path.samefile(file, path):
                 raise ValueError(f"{os.fspath(path)!r} is an input of this call and would be overwritten")
+
+
+def trace(verilog: str, clocks: int, images: bytes) -> str:
+    """The value change dump of a Verilog text, driven over the images of a PGM file. `clocks` is 0 to 100,000,000.
+
+    Raises exceptions of `Failure`, with `Ended` if the text stops or is not in the subset.
+    """
+    count = _number("clocks", clocks, 0, 100_000_000)
+    with _in_memory(verilog.encode("ascii")) as file:
+        done = _call(["trace", f"/dev/fd/{file}", count, "/dev/stdin", "/dev/stdout"], [file], images)
+    if done.status:
+        raise _FAILURES.get(done.status, Ended)(done.status, done.line or f"status {done.status}")
+    return done.out.decode("ascii")
 
 
 # Other programs

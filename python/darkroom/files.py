@@ -4,7 +4,7 @@ from __future__ import annotations
 import os
 import secrets
 import stat
-from typing import Union
+from typing import BinaryIO, Union
 
 AnyPath = Union[str, "os.PathLike[str]"]
 
@@ -15,16 +15,26 @@ def save(path: AnyPath, content: bytes) -> None:
     A link stays, and the file that it names is replaced. The mode of a file that is replaced stays. A device or a pipe
     cannot be replaced, and is written to. Raises OSError with the name `path`.
     """
-    target = os.path.realpath(path)
     try:
-        mode = os.stat(target).st_mode if os.path.exists(target) else None
+        # (the link /dev/stdout names no file if standard output is a pipe)
+        mode = os.stat(path).st_mode if os.path.exists(path) else None
         if mode is None or stat.S_ISREG(mode):
-            _replace(target, content, mode)
+            _replace(os.path.realpath(path), content, mode)
         else:
-            with open(target, "wb") as file:
+            with _open(path) as file:
                 file.write(content)
     except OSError as error:
         raise type(error)(error.errno, error.strerror, os.fspath(path)) from None
+
+
+def _open(path: AnyPath) -> BinaryIO:
+    """A device or a pipe to write to. Standard output is not opened again: without a reader that would wait for one."""
+    try:
+        if os.path.samestat(os.stat(path), os.fstat(1)):
+            return open(os.dup(1), "wb")
+    except OSError:
+        pass
+    return open(path, "wb")
 
 
 def _replace(target: str, content: bytes, mode: int | None) -> None:

@@ -5,7 +5,6 @@ Each expression holds its text. So what is written is what was built, and a deep
 from __future__ import annotations
 
 import builtins
-import html
 import operator
 import os
 import re
@@ -531,7 +530,8 @@ class Program(Commands):
         return f"<program {self._width} by {self._height}: {names or 'no output yet'}>"
 
     def _repr_html_(self) -> str:
-        return f"<pre>{html.escape(self.text())}</pre>"
+        from .page import notebook
+        return notebook(self)
 
     def _define(self, word: str, body: Operand, type: Type | None, name: str | None, declared: Type | None) -> Image:
         expression = _expression(body)

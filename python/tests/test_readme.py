@@ -34,14 +34,18 @@ def test_the_first_program_prints_what_the_page_shows(capsys: pytest.CaptureFixt
 
 
 def test_the_other_programs_run(tmp_path: Path, monkeypatch: pytest.MonkeyPatch) -> None:
+    pytest.importorskip("jinja2")
     monkeypatch.chdir(tmp_path)
     darkroom.write("photo.png", np.zeros((480, 640), np.uint8))
     known: dict[str, object] = {}
     programs = [text for language, text in blocks() if language == "python"]
-    assert len(programs) == 2
+    assert len(programs) == 3
     for text in programs:
         exec(compile(text, "README.md", "exec"), known)
     assert Path("blur.v").read_text(encoding="ascii").startswith("module dk(")
+    assert Path("plan.svg").read_text(encoding="utf-8").startswith("<svg")
+    # 4*a has 8 + 3 bits, and each of the four sums one bit more
+    assert "<b>rows</b>: u15, from 0 to 0<" in Path("page.html").read_text(encoding="utf-8")
 
 
 def test_a_picture_by_hand() -> None:
