@@ -31,7 +31,8 @@ bits 16
 reads 3
 end
 """)
-LINES = """image a din 8 0
+LINES = f"""text sha256 {"0" * 64}
+image a din 8 0
 image f n9 8 1
 read f a -1 0 n1 2
 read f a 0 0 n2 1
