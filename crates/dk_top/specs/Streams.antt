@@ -20,6 +20,7 @@ use Rattle.cycle_sim.specs.Filled.{filled_contents}
 use Rattle.dk_top.specs.Streaming.{ReadsRun, output_kind, first_bits}
 use Rattle.pgm_rounds.specs.declared.round.Round.{Round}
 use Rattle.dk_compile.specs.declared.compiling.Compiled.{Compiled}
+use Rattle.dk_top.specs.declared.commands.running.Machine.{Machine}
 use Rattle.dk_top.specs.Compiling.{IsCompiledFrom}
 use Rattle.dk_top.specs.Reading.{IsInputOf}
 use Rattle.dk_top.specs.Command.{run}
@@ -117,6 +118,11 @@ pub record PerformsRun (program image out : List ℕ) (age : ℕ) (result : Endi
   pub only : RunsOnly old new
   pub read_fault : HasCauseIn (result ≡ ending.ReadFault) old.input_failures new.input_failures
   pub write_fault : HasCauseIn (result ≡ ending.WriteFault) old.output_failures new.output_failures
+
+-- The text is compiled to this, and its Verilog text denotes this module.
+pub record IsMachineOf (text : List ℕ) (age : ℕ) (machine : Machine) : Type 0 where
+  pub compiled : IsCompiledFrom text age false None machine.compiled
+  pub again : machine.«module» ≡ machine.compiled.«module»
 
 -- what holds of each text and age that this is compiled from
 abbrev pub OfCompiled : Compiled → (List ℕ → ℕ → Type 0) → Type 0

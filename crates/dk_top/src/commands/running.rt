@@ -4,24 +4,27 @@ ghost use Rattle.std.specs.Prelude.{◌≡◌, ◌≤◌, ◌<◌, ◌^◌, ℕ,
 ghost use Rattle.dk_base.specs.declared.TheConstants.{MAX_AGE, MAX_LATENCY, MAX_FILE_IMAGES};
 ghost use Rattle.dk_base.specs.Frames.{IsFrame};
 ghost use Rattle.dk_base.specs.FrameSizes.{size_of};
-ghost use Rattle.dk_desk.specs.Calls.{IsIfTold, OpensOnly};
+ghost use Rattle.dk_desk.specs.Calls.{IsIfTold};
 ghost use Rattle.dk_top.specs.Command.{run as run_command};
 ghost use Rattle.dk_compile.specs.Limits.{IsFaultAt};
 ghost use Rattle.dk_top.specs.Output.{output_file};
+ghost use Rattle.dk_top.specs.Program.{CanBeCompiled};
 ghost use Rattle.dk_top.specs.Compiling.{IsCompiledFrom, NotesRun, frame_drive};
 ghost use Rattle.dk_top.specs.Verdict.{run_terms, IsAnswer, IsGoodPair, OfPair};
 ghost use Rattle.dk_top.specs.State.{IsFresh, LeavesText};
 ghost use Rattle.dk_top.specs.Streaming.{IsOnePort};
-ghost use Rattle.dk_top.specs.Streams.{OfRun, OfCompiled, RunsOn, PerformsRun};
+ghost use Rattle.dk_top.specs.Streams.{IsMachineOf, OfRun, OfCompiled, RunsOn, PerformsRun};
+ghost use Rattle.dk_top.specs.Unread.{unread_text};
 ghost use Rattle.dk_types.specs.Typed.{Typing};
 ghost use Rattle.dk_compile.specs.Fronts.{IsForm};
 ghost use Rattle.dk_top.specs.Reading.{ReadsAndNotes, OfFile, AreRead, IsSourceEnding, Stops, TellsRead, NotesOnly};
 
-use crate::commands::compiling::read_compiled;
+use crate::commands::compiling::compiled;
 use crate::commands::streaming::{is_one_port, run_streamed};
 use crate::files::write_file;
 use crate::laws::notes_agree_law;
-use crate::reading::read_images;
+use crate::of_text::{OfText, read_with};
+use crate::reading::{read_frames, read_whole};
 use crate::work::Work;
 use cycle_sim::Fill;
 use dk_base::{FrameSize, OutOfMemory};
@@ -99,48 +102,37 @@ pub fn clocked<D: Desk>(
 
 // The program, compiled, and the module that its Verilog text denotes.
 #[derive(Drop)]
-struct Machine {
-    compiled: Compiled,
-    module: Module,
+pub struct Machine {
+    pub compiled: Compiled,
+    pub module: Module,
 }
 
-// Reads, judges and compiles the program, and reads its Verilog text again.
-fn read_machine<D: Desk>(
-    alloc: Global,
-    desk: &mut D,
-    program: &str,
-    age: u8,
-) -> Result<Machine, Ending>
-    requires fresh { (D.outside desk.old).program.stage ≡ Stage.Unasked }
-    requires before_create { (D.outside desk.old).file.stage ≡ Stage.Unasked }
-    requires age { age ≤ MAX_AGE }
-    ensures compiled { IfOk result (λ m. OfFile (D.outside desk.old) program.now
-        (λ source. IsCompiledFrom source age false None m.compiled)) }
-    ensures some { IfOk result (λ m. (source : List ℕ)
-        × IsCompiledFrom source age false None m.compiled) }
-    ensures again { IfOk result (λ m. m.«module» ≡ m.compiled.«module») }
-    ensures fault { IfErr result (λ e. OfFile (D.outside desk.old) program.now
-        (λ source. IsSourceEnding (IsFaultAt source age) e)) }
-    ensures stops { IfErr result Stops }
-    ensures left { IfErr result (λ e. OfFile (D.outside desk.old) program.now
-        (λ source. LeavesText e source (D.outside desk.new).program)) }
-    ensures name { IsIfTold (D.outside desk.new).program.name (Some program.now) }
-    ensures only { OpensOnly InSlot.Program (D.outside desk.old) (D.outside desk.new) }
-    ensures cause { TellsRead result (D.outside desk.old) (D.outside desk.new) }
-{
-    let options = Options {
-        enable: false,
-        age,
-        block: None,
-    };
-    let compiled = match read_compiled(alloc, desk, program, options) {
-        Ok(compiled) => compiled,
-        Err(ending) => return Err(ending),
-    };
-    match read_again(alloc, &compiled) {
-        Ok(module) => Ok(Machine { compiled, module }),
-        Err(_) => Err(Ending::Memory),
+/// Compiles the program, and reads its Verilog text again.
+impl OfText for RunWords<'_> {
+    type Made = Machine;
+
+    ghost ranges = { λ words. words.age ≤ MAX_AGE };
+
+    ghost makes = { λ words text machine. IsMachineOf text words.age machine };
+
+    ghost good = { λ words text. CanBeCompiled text words.age };
+
+    ghost ends = { λ words text e. IsSourceEnding (IsFaultAt text words.age) e };
+
+    fn make(&self, alloc: Global, text: &[u8]) -> Result<Machine, Ending> {
+        let options = Options {
+            enable: false,
+            age: self.age,
+            block: None,
+        };
+        let compiled = compiled(alloc, text, options)?;
+        match read_again(alloc, &compiled) {
+            Ok(module) => Ok(Machine { compiled, module }),
+            Err(_) => Err(Ending::Memory),
+        }
     }
+
+    ghost unread = { λ words text e h. unread_text (IsFaultAt text words.age) text e (λ long. long) h };
 }
 
 // Reads and judges the file of images, and returns the file of the pictures that the module shows.
@@ -173,10 +165,9 @@ fn ran<D: Desk>(
     ensures cause { TellsRead result (D.outside desk.old) (D.outside desk.new) }
 {
     one_at_age_law();
-    let rounds = match read_images(alloc, desk, &compiled.ir, image, None) {
-        Ok(rounds) => rounds,
-        Err(ending) => return Err(ending),
-    };
+    // no list of bytes is longer
+    let file = read_whole(alloc, desk, InSlot::Image, image, usize::MAX, Ending::Memory)?;
+    let rounds = read_frames(alloc, &compiled.ir, &file)?;
     match clocked(alloc, desk, compiled, module, &rounds) {
         Ok(output) => Ok(output),
         Err(_) => Err(Ending::Memory),
@@ -215,31 +206,24 @@ fn run_rounds<D: Desk>(
 }
 
 // Compiles the program, and clocks its module on the images.
-fn run_program<D: Desk>(
-    alloc: Global,
-    desk: &mut D,
-    program: &str,
-    image: &str,
-    out: &str,
-    age: u8,
-) -> Ending
+fn run_program<D: Desk>(alloc: Global, desk: &mut D, words: &RunWords) -> Ending
     requires fresh { IsFresh (D.outside desk.old) }
-    requires age { age ≤ MAX_AGE }
-    ensures performs { PerformsRun program.now image.now out.now age result (D.outside desk.old)
-        (D.outside desk.new) }
-    ensures left { OfFile (D.outside desk.old) program.now
+    requires age { words.now.age ≤ MAX_AGE }
+    ensures performs { PerformsRun words.now.program.now words.now.image.now words.now.out.now words.now.age result
+        (D.outside desk.old) (D.outside desk.new) }
+    ensures left { OfFile (D.outside desk.old) words.now.program.now
         (λ source. LeavesText result source (D.outside desk.new).program) }
 {
     one_source_law();
     one_at_age_law();
-    let Machine { compiled, module } = match read_machine(alloc, desk, program, age) {
+    let Machine { compiled, module } = match read_with(alloc, desk, words.program, words) {
         Ok(machine) => machine,
         Err(ending) => return ending,
     };
     if is_one_port(&compiled.ir) {
-        run_streamed(alloc, desk, &compiled, &module, image, out)
+        run_streamed(alloc, desk, &compiled, &module, words.image, words.out)
     } else {
-        run_rounds(alloc, desk, &compiled, &module, image, out)
+        run_rounds(alloc, desk, &compiled, &module, words.image, words.out)
     }
 }
 
@@ -248,6 +232,6 @@ impl Work for RunWords<'_> {
     ghost command = { λ words. run_command words.program.now words.image.now words.out.now words.age };
 
     fn perform<D: Desk>(&self, alloc: Global, desk: &mut D) -> Ending {
-        run_program(alloc, desk, self.program, self.image, self.out, self.age)
+        run_program(alloc, desk, self)
     }
 }
