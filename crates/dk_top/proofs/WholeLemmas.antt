@@ -10,9 +10,12 @@ use Rattle.dk_desk.specs.Calls.{HasCauseIn, IsIfTold, OpensOnly}
 use Rattle.source_fault.specs.declared.fault.SourceFault.TheVariants as source
 use Rattle.dk_endings.specs.declared.ending.Ending.{Ending}
 use Rattle.dk_endings.specs.declared.ending.Ending.TheVariants as ending
+use Rattle.dk_types.specs.Typed.{Typing}
+use Rattle.pointwise_ir.specs.Programs.{Program}
+use Rattle.dk_compile.specs.Fronts.{IsForm}
 use Rattle.dk_top.specs.Verdict.{Files, bytes_of}
 use Rattle.dk_top.specs.State.{LeavesRest, LeavesText, LeavesBoth}
-use Rattle.dk_top.specs.Reading.{OfFile, OfFiles, ReadsInputs, IsNamed, LeavesInputs, Stops, IsJudgement, TellsRead, IsUnread, failed, memory, long, IsUnreadText, ReadsWhole, ReadsText, ReadsBoth}
+use Rattle.dk_top.specs.Reading.{OfFile, OfFiles, ReadsInputs, IsNamed, LeavesInputs, Stops, IsJudgement, TellsRead, IsUnread, failed, memory, long, IsUnreadText, IsImageEnding, ReadsWhole, ReadsText, ReadsBoth}
 use Rattle.dk_top.proofs.LongLemmas.{judgement_stops, judgement_read, judgement_text, judgement_images}
 use Rattle.dk_top.proofs.RunLemmas.{same_count, ok_apart}
 
@@ -117,6 +120,12 @@ module _ {A : Type 0} (file : List ℕ) (makes : List ℕ → A → Type 0) (acc
     only = whole.only;
     cause = quiet (Err e) old new (read_count v old new whole.cause) (judged_apart {A = A} (Err e) judged);
   }
+
+-- images of any length that were not read
+pub unlimited : (limit : ℕ) (name : List ℕ) (old : Outside) (slot : Input) (e : Ending) (ir : Program) → IsUnread limit ending.Memory name old slot e → IfSome old.files (λ f. (p : Typing) → IsForm p ir → IsImageEnding None p (bytes_of f name) e)
+unlimited limit name old slot e ir (failed is) = told_all old.files (λ f. (p : Typing) → IsForm p ir → IsImageEnding None p (bytes_of f name) e) (λ f p form. subst (IsImageEnding None p (bytes_of f name)) (sym is) tt)
+unlimited limit name old slot e ir (memory is) = told_all old.files (λ f. (p : Typing) → IsForm p ir → IsImageEnding None p (bytes_of f name) e) (λ f p form. subst (IsImageEnding None p (bytes_of f name)) (sym is) tt)
+unlimited limit name old slot e ir (long is more rest) = told_all old.files (λ f. (p : Typing) → IsForm p ir → IsImageEnding None p (bytes_of f name) e) (λ f p form. subst (IsImageEnding None p (bytes_of f name)) (sym is) tt)
 
 -- what a read of the program changes of both inputs
 inputs_first : (old new : Outside) → OpensOnly ProgramSlot old new → ReadsInputs old new

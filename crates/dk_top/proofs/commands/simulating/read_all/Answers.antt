@@ -29,9 +29,9 @@ returns-in_err-file g c =
       stops = tt;
       left = λ t file p i rest. (tt, rest);
     } in
-    lifted (λ r. ReadsBoth c.args.verilog.now c.args.image.now (HasModule hold) (makes hold) HasBenchFrames (IsInputRefusal hold) r (outside c.args.desk.now) (outside c.read_whole-file.new.desk)) c.from_residual-in_err-file.result c.in_err-file.field-0.0 c.from_residual-in_err-file.ensures.1
+    lifted (λ r. ReadsBoth c.args.verilog.now c.args.image.now (HasModule hold) (makes hold) HasBenchFrames (IsInputRefusal hold) r (outside c.args.desk.now) (outside c.read_whole-2.new.desk)) c.from_residual-in_err-file.result c.in_err-file.field-0.0 c.from_residual-in_err-file.ensures.1
     (second_unread c.args.verilog.now c.args.image.now (HasModule hold) (makes hold) HasBenchFrames (IsInputRefusal hold) MAX_VERILOG_BYTES (ending.Verilog verilog.TooLong) (outside c.args.desk.now) (outside c.read_whole.new.desk) c.in_ok-text.text text c.deref.ensures.value c.in_ok-text.ensures
-    (c.in_ok-module.module, made) MAX_PGM_BYTES (ending.Image image.TooLong) (outside c.read_whole-file.new.desk) law c.in_err-file.field-0.0 c.in_err-file.ensures)
+    (c.in_ok-module.module, made) MAX_PGM_BYTES (ending.Image image.TooLong) (outside c.read_whole-2.new.desk) law c.in_err-file.field-0.0 c.in_err-file.ensures)
 
 pub returns-in_err-input : goal.returns-in_err-input
 returns-in_err-input g c =
@@ -42,9 +42,9 @@ returns-in_err-input g c =
     let m = c.in_ok-module.module in
     let made = c.in_ok-module.ensures.made in
     let e = c.in_err-input.field-0.0 in
-    lifted (λ r. ReadsBoth c.args.verilog.now c.args.image.now (HasModule hold) (makes hold) HasBenchFrames (IsInputRefusal hold) r (outside c.args.desk.now) (outside c.read_whole-file.new.desk)) c.from_residual-in_err-input.result e c.from_residual-in_err-input.ensures.1
+    lifted (λ r. ReadsBoth c.args.verilog.now c.args.image.now (HasModule hold) (makes hold) HasBenchFrames (IsInputRefusal hold) r (outside c.args.desk.now) (outside c.read_whole-2.new.desk)) c.from_residual-in_err-input.result e c.from_residual-in_err-input.ensures.1
     (both_judged c.args.verilog.now c.args.image.now (HasModule hold) (makes hold) HasBenchFrames (IsInputRefusal hold) MAX_VERILOG_BYTES (ending.Verilog verilog.TooLong) (outside c.args.desk.now) (outside c.read_whole.new.desk) c.in_ok-text.text text c.deref.ensures.value c.in_ok-text.ensures
-    (m, made) MAX_PGM_BYTES (ending.Image image.TooLong) (outside c.read_whole-file.new.desk) c.in_ok-file.file file c.deref-2.ensures.value c.in_ok-file.ensures (Err e)
+    (m, made) MAX_PGM_BYTES (ending.Image image.TooLong) (outside c.read_whole-2.new.desk) c.in_ok-file.file file c.deref-2.ensures.value c.in_ok-file.ensures (Err e)
     tt tt (file_refused hold text file m e made (judgement_stops e c.in_err-input.ensures.judged) c.in_err-input.ensures.fault) c.in_err-input.ensures.judged)
 
 pub returns : goal.returns
@@ -56,5 +56,5 @@ returns g c =
     let made = c.in_ok-module.ensures.made in
     let read = c.in_ok-input.ensures in
     both_judged c.args.verilog.now c.args.image.now (HasModule hold) (makes hold) HasBenchFrames (IsInputRefusal hold) MAX_VERILOG_BYTES (ending.Verilog verilog.TooLong) (outside c.args.desk.now) (outside c.read_whole.new.desk) c.in_ok-text.text text c.deref.ensures.value c.in_ok-text.ensures
-    (c.in_ok-module.module, made) MAX_PGM_BYTES (ending.Image image.TooLong) (outside c.read_whole-file.new.desk) c.in_ok-file.file file c.deref-2.ensures.value c.in_ok-file.ensures _
+    (c.in_ok-module.module, made) MAX_PGM_BYTES (ending.Image image.TooLong) (outside c.read_whole-2.new.desk) c.in_ok-file.file file c.deref-2.ensures.value c.in_ok-file.ensures _
     (record { made = made; input = read.input }) (record { frame = read.frame; frames = read.frames }) tt tt
