@@ -19,7 +19,7 @@ returns-in-Err-pictures-clause-verdict g c =
     let given = c.in-Ok.given in
     let d : Drive = c.drive_for-drive.result in
     let same : d ≡ drive_of w.clocks w.fill w.hold = c.drive_for-drive.ensures.is in
-    of_input _ w.verilog.now w.image.now d (drive_of w.clocks w.fill w.hold) given.module (size_of given.input.size) given.input.rounds.items (λ x t i. IsSimAnswer x t i c.in-Err-pictures.ending) same c.in-Ok.ensures.input c.in-Err-pictures.ensures.fault
+    of_input _ w.verilog.now w.image.now d (drive_of w.clocks w.fill w.hold) given.module (size_of given.input.size) given.input.rounds.items (λ x t i. IsSimAnswer x t i c.in-Err-pictures.ending) same c.in-Ok.ensures.made c.in-Err-pictures.ensures.fault
 
 pub returns-in-Ok-write_file-clause-verdict : goal.returns-in-Ok-write_file-clause-verdict
 returns-in-Ok-write_file-clause-verdict g c =
@@ -27,7 +27,7 @@ returns-in-Ok-write_file-clause-verdict g c =
     let given = c.in-Ok.given in
     let d : Drive = c.drive_for-drive.result in
     let same : d ≡ drive_of w.clocks w.fill w.hold = c.drive_for-drive.ensures.is in
-    of_input _ w.verilog.now w.image.now d (drive_of w.clocks w.fill w.hold) given.module (size_of given.input.size) given.input.rounds.items (λ x t i. IsSimAnswer x t i ending.Done) same c.in-Ok.ensures.input
+    of_input _ w.verilog.now w.image.now d (drive_of w.clocks w.fill w.hold) given.module (size_of given.input.size) given.input.rounds.items (λ x t i. IsSimAnswer x t i ending.Done) same c.in-Ok.ensures.made
     (λ t i is. (c.in-Ok-pictures.output.items, c.in-Ok-pictures.ensures.file t i is))
 
 pub returns-in-Ok-write_file-clause-output : goal.returns-in-Ok-write_file-clause-output
@@ -36,7 +36,7 @@ returns-in-Ok-write_file-clause-output g c = λ opened.
     let given = c.in-Ok.given in
     let d : Drive = c.drive_for-drive.result in
     let same : d ≡ drive_of w.clocks w.fill w.hold = c.drive_for-drive.ensures.is in
-    stored_sim _ w.verilog.now w.image.now d (drive_of w.clocks w.fill w.hold) given.module (size_of given.input.size) given.input.rounds.items _ c.in-Ok-pictures.output.items (λ written whole. written ≡ whole) same c.in-Ok.ensures.input c.in-Ok-pictures.ensures.only_file
+    stored_sim _ w.verilog.now w.image.now d (drive_of w.clocks w.fill w.hold) given.module (size_of given.input.size) given.input.rounds.items _ c.in-Ok-pictures.output.items (λ written whole. written ≡ whole) same c.in-Ok.ensures.made c.in-Ok-pictures.ensures.only_file
     (subst (λ bytes. IfSome (g.D.Desk.outside c.write_file.new.desk).file.bytes (λ written. written ≡ bytes)) c.deref.ensures.value c.in-Ok-write_file.ensures.whole)
 
 pub returns-in-Ok-write_file-clause-notes : goal.returns-in-Ok-write_file-clause-notes
@@ -48,7 +48,7 @@ returns-in-Ok-write_file-clause-notes g c =
     let same : d ≡ drive_of w.clocks w.fill w.hold = c.drive_for-drive.ensures.is in
     let before : (outside c.read_all.new.desk).notes ≡ (outside c.args.desk.now).notes = ap (λ (o : Outside). o.notes) c.in-Ok.ensures.only in
     let after : (outside c.write_file.new.desk).notes ≡ (outside c.pictures.new.desk).notes = ap (λ (o : Outside). o.notes) c.in-Ok-write_file.ensures.only in
-    of_input _ w.verilog.now w.image.now d (drive_of w.clocks w.fill w.hold) given.module (size_of given.input.size) given.input.rounds.items (λ x t i. NotesSim x t i (outside c.args.desk.now).notes (outside c.write_file.new.desk).notes) same c.in-Ok.ensures.input
+    of_input _ w.verilog.now w.image.now d (drive_of w.clocks w.fill w.hold) given.module (size_of given.input.size) given.input.rounds.items (λ x t i. NotesSim x t i (outside c.args.desk.now).notes (outside c.write_file.new.desk).notes) same c.in-Ok.ensures.made
     (λ t i is. rw (after, sym before) (c.in-Ok-pictures.ensures.notes t i is))
 
 pub returns-in-Ok-write_file-clause-order : goal.returns-in-Ok-write_file-clause-order
@@ -67,7 +67,7 @@ returns-clause-verdict g c =
     let given = c.in-Ok.given in
     let d : Drive = c.drive_for-drive.result in
     let same : d ≡ drive_of w.clocks w.fill w.hold = c.drive_for-drive.ensures.is in
-    of_input _ w.verilog.now w.image.now d (drive_of w.clocks w.fill w.hold) given.module (size_of given.input.size) given.input.rounds.items (λ x t i. IsSimAnswer x t i ending.WriteFault) same c.in-Ok.ensures.input
+    of_input _ w.verilog.now w.image.now d (drive_of w.clocks w.fill w.hold) given.module (size_of given.input.size) given.input.rounds.items (λ x t i. IsSimAnswer x t i ending.WriteFault) same c.in-Ok.ensures.made
     (λ t i is. (c.in-Ok-pictures.output.items, c.in-Ok-pictures.ensures.file t i is))
 
 pub returns-clause-output : goal.returns-clause-output
@@ -76,7 +76,7 @@ returns-clause-output g c = λ opened.
     let given = c.in-Ok.given in
     let d : Drive = c.drive_for-drive.result in
     let same : d ≡ drive_of w.clocks w.fill w.hold = c.drive_for-drive.ensures.is in
-    stored_sim _ w.verilog.now w.image.now d (drive_of w.clocks w.fill w.hold) given.module (size_of given.input.size) given.input.rounds.items _ c.in-Ok-pictures.output.items IsPrefix same c.in-Ok.ensures.input c.in-Ok-pictures.ensures.only_file
+    stored_sim _ w.verilog.now w.image.now d (drive_of w.clocks w.fill w.hold) given.module (size_of given.input.size) given.input.rounds.items _ c.in-Ok-pictures.output.items IsPrefix same c.in-Ok.ensures.made c.in-Ok-pictures.ensures.only_file
     (subst (λ bytes. IfSome (g.D.Desk.outside c.write_file.new.desk).file.bytes (λ written. IsPrefix written bytes)) c.deref.ensures.value (c.in-Err-write_file.ensures.prefix opened))
 
 pub returns-in-Err-pictures-clause-too_long : goal.returns-in-Err-pictures-clause-too_long

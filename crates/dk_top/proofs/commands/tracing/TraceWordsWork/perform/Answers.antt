@@ -19,7 +19,7 @@ returns-clause-verdict g c =
     let given = c.in-Ok.given in
     let d : Drive = c.drive_for-drive.result in
     let same : d ≡ trace_drive w.clocks = c.drive_for-drive.ensures.is in
-    of_input _ w.verilog.now w.image.now d (trace_drive w.clocks) given.module (size_of given.input.size) given.input.rounds.items (λ x t i. IsTraceAnswer x t i c.traced.result) same c.in-Ok.ensures.input c.traced.ensures.verdict
+    of_input _ w.verilog.now w.image.now d (trace_drive w.clocks) given.module (size_of given.input.size) given.input.rounds.items (λ x t i. IsTraceAnswer x t i c.traced.result) same c.in-Ok.ensures.made c.traced.ensures.verdict
 
 pub returns-clause-asked : goal.returns-clause-asked
 returns-clause-asked g c =
@@ -39,7 +39,7 @@ returns-clause-output g c = λ opened.
     let given = c.in-Ok.given in
     let d : Drive = c.drive_for-drive.result in
     let same : d ≡ trace_drive w.clocks = c.drive_for-drive.ensures.is in
-    stored_trace _ w.verilog.now w.image.now d (trace_drive w.clocks) given.module (size_of given.input.size) given.input.rounds.items _ c.traced.result same c.in-Ok.ensures.input (c.traced.ensures.output opened)
+    stored_trace _ w.verilog.now w.image.now d (trace_drive w.clocks) given.module (size_of given.input.size) given.input.rounds.items _ c.traced.result same c.in-Ok.ensures.made (c.traced.ensures.output opened)
 
 pub returns-clause-files : goal.returns-clause-files
 returns-clause-files g c = stay_others c.args.self.now.vcd.now _ _ _ (ap (λ (o : Outside). o.files) c.in-Ok.ensures.only) c.traced.ensures.files
