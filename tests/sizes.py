@@ -1,7 +1,7 @@
 #!/usr/bin/env python3
 """Counts crates: the longest chain of dependencies, the large crates, the functions whose contract states only safety, and how long contracts and
 lists of arguments are. Prints a chain of more than eight crates, each crate of more than 1,500 lines or 110 functions, each of more than 1,500 lines
-with its clauses (three have more, and may not grow: ALL_LINES), each function of more than six arguments, and a number of functions that docs/PROMISES.md has not, and then ends with status 1. The methods of the trait `BufferForm` are left out:
+with its clauses (two have more, and may not grow: ALL_LINES), each function of more than six arguments, and a number of functions that docs/PROMISES.md has not, and then ends with status 1. The methods of the trait `BufferForm` are left out:
 their callers give each argument.
 
 usage: tests/sizes.py [--print]
@@ -19,7 +19,7 @@ TOP = Path(__file__).resolve().parent.parent
 MOST_CHAIN, MOST_LINES, MOST_FUNCTIONS, MOST_ARGUMENTS = 8, 1500, 110, 6
 MANY_CLAUSES, WIDE = 15, 100
 # The crates that have more than MOST_LINES with their clauses: none of them may grow.
-ALL_LINES = {"dk_top": 2291, "circuit": 1554, "netlist": 1524}
+ALL_LINES = {"circuit": 1554, "netlist": 1524}
 FUNCTION = re.compile(r"^\s*(?:pub(?:\([a-z]+\))?\s+)?(?:const\s+)?(?:unsafe\s+)?fn \w+.*")
 TRAIT = re.compile(r"^impl\b.*\bfor\b")
 
