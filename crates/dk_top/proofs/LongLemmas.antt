@@ -2,10 +2,8 @@
 use Rattle.std.proofs.Common.{◌≡◌, ◌⊎◌, inl, inr, ℕ, ◌+◌, ◌<◌, ◌≤◌, false, List, ◌++◌, length, drop, Option, None, Some, IfSome, Result, Ok, Err, IfErr, refl, sym, ap, ◌∙◌, subst, arith}
 use Rattle.std.proofs.Math.Seq.{drop-append_seam}
 use Rattle.std.specs.Io.KnownBytes.{prepend_known}
-use Rattle.dk_base.specs.declared.TheConstants.{MAX_SOURCE_BYTES, MAX_VERILOG_BYTES, MAX_PGM_BYTES}
-use Rattle.dk_desk.specs.declared.Stage.TheVariants.{Unasked}
-use Rattle.dk_desk.specs.Outside.{Input, Outside}
-use Rattle.dk_desk.specs.Calls.{LosesCount}
+use Rattle.dk_base.specs.declared.TheConstants.{MAX_SOURCE_BYTES, MAX_VERILOG_BYTES}
+use Rattle.dk_desk.specs.Outside.{Input}
 use Rattle.dk_compile.specs.declared.compiling.Compiled.{Compiled}
 use Rattle.source_fault.specs.declared.fault.SourceFault.{SourceFault}
 use Rattle.source_fault.specs.declared.fault.SourceFault.TheVariants as source
@@ -22,7 +20,7 @@ use Rattle.dk_top.specs.Verdict.{Files, bytes_of, OnFiles, IsRunAnswer}
 use Rattle.dk_words.specs.declared.command.Rewriting.{Rewriting}
 use Rattle.dk_words.specs.declared.command.Rewriting.TheVariants.{Cut, Narrow, Widen}
 use Rattle.dk_top.specs.Command.{Command, run, eval, compile, sim, trace, plan, check, make, rewrite, explain, nets}
-use Rattle.dk_top.specs.State.{LeavesRest, LeavesText, LeavesImages, LeavesBoth, TakesNoMore, AsksWhere, AsksWhereModule}
+use Rattle.dk_top.specs.State.{LeavesText, LeavesImages, LeavesBoth, TakesNoMore}
 use Rattle.dk_top.specs.Reading.{Stops, IsJudgement, IsSourceEnding, TellsNoText, TellsNoImages, IsRewriteEnding}
 use Rattle.dk_top.specs.Simulating.{IsModuleEnding}
 use Rattle.dk_top.proofs.CommandLemmas.{on_all}
@@ -34,10 +32,6 @@ left_over file bytes limit None long is = absurd (let apart : ⊥ = cc in apart)
 left_over file bytes limit (Some r) long is =
     let whole : file ≡ bytes ++ r = cc in
     ap Some (sym (drop-append_seam bytes r) ∙ (ap (λ n. drop n (bytes ++ r)) long ∙ ap (drop (limit + 1)) (sym whole)))
-
-pub left_rest : (told : Option Files) (name : List ℕ) (limit : ℕ) (mid new : Input) → IfSome told (λ f. mid.rest ≡ Some (bytes_of f name)) → LosesCount (limit + 1) mid new → IfSome told (λ f. LeavesRest limit (bytes_of f name) new)
-left_rest None name limit mid new start lost = tt
-left_rest (Some f) name limit mid new start (bytes, long, is) = left_over (bytes_of f name) bytes limit new.rest long (sym start ∙ is)
 
 -- an ending that reports no text leaves any text
 pub no_text : (told : Option Files) (name : List ℕ) (slot : Input) (e : Ending) → TellsNoText e → IfSome told (λ f. LeavesText e (bytes_of f name) slot)

@@ -1,5 +1,5 @@
 -- What is read of a command's files.
-use Rattle.std.proofs.Common.{◌≡◌, ℕ, ◌<◌, ◌≤◌, List, length, map, Option, None, Some, Result, Ok, Err, IfOk, IfErr, IfSome, OnOk, sym, ap, ◌∙◌, subst, arith}
+use Rattle.std.proofs.Common.{◌≡◌, ℕ, ◌<◌, ◌≤◌, List, length, map, Option, None, Some, IfSome, sym, ap, ◌∙◌, subst, arith}
 use Rattle.std.proofs.lemmas.List.{length-map}
 use Rattle.dk_base.specs.Types.{width_of}
 use Rattle.dk_types.specs.Typed.{Typing}
@@ -7,7 +7,7 @@ use Rattle.pointwise_ir.specs.Programs.{Program, IsProgram}
 use Rattle.raster_delay.specs.Systems.{System}
 use Rattle.flow_dual.specs.declared.solution.Solution.{Solution}
 use Rattle.buffer_plan.specs.Plans.{Plan}
-use Rattle.dk_compile.specs.Sources.{IsText, IsSourceFault}
+use Rattle.dk_compile.specs.Sources.{IsText}
 use Rattle.dk_compile.specs.Fronts.{IsForm}
 use Rattle.dk_compile.specs.Compiled.{IsPlanned}
 use Rattle.pgm_codec.specs.Images.{Image}
@@ -17,14 +17,10 @@ use Rattle.program_images.specs.Ports.{ports_from, ports_of}
 use Rattle.pgm_rounds.specs.Files.{FitsFile, frame_of, frames_of}
 use Rattle.dk_endings.specs.declared.ending.Ending.{Ending}
 use Rattle.dk_endings.specs.declared.ending.Ending.TheVariants as ending
-use Rattle.dk_endings.specs.declared.ending.ImageFault.TheVariants as image
 use Rattle.dk_compile.specs.Limits.{IsAcceptedAt, IsFaultAt}
 use Rattle.dk_top.specs.Program.{ports}
 use Rattle.dk_top.specs.Verdict.{Terms, Files, bytes_of, IsGoodPair, IsAnswer}
-use Rattle.dk_desk.specs.Outside.{Outside}
-use Rattle.dk_top.specs.State.{AsksWhere}
-use Rattle.dk_top.specs.Unread.{unread_text}
-use Rattle.dk_top.specs.Reading.{IsSourceEnding, IsUnreadText, IsImageEnding, IsUnread, IsFormAt, IsInputOf, IsRead}
+use Rattle.dk_top.specs.Reading.{IsSourceEnding, IsImageEnding, IsFormAt, IsInputOf, IsRead}
 
 -- a form expects of files what its program expects
 pub ports_same : (p : Typing) (ir : Program) → IsForm p ir → ports_of ir ≡ ports p

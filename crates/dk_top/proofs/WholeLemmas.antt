@@ -1,5 +1,5 @@
 -- What a call does that read its files whole.
-use Rattle.std.proofs.Common.{◌≡◌, ◌≢◌, ℕ, ◌<◌, ◌≤◌, List, length, Option, None, Some, Result, Ok, Err, IfOk, IfErr, IfSome, OnOk, refl, sym, ap, ◌∙◌, subst, arith}
+use Rattle.std.proofs.Common.{◌≡◌, ◌≢◌, ℕ, ◌<◌, List, length, Option, None, Some, Result, Ok, Err, IfOk, IfErr, IfSome, OnOk, sym, ap, ◌∙◌, subst, arith}
 use Rattle.std.specs.Prelude.{IsErrAnd, Vec}
 use Rattle.std.specs.declared.alloc.Global.{Global}
 use Rattle.dk_base.specs.declared.TheConstants.{MAX_SOURCE_BYTES}
@@ -15,7 +15,7 @@ use Rattle.pointwise_ir.specs.Programs.{Program}
 use Rattle.dk_compile.specs.Fronts.{IsForm}
 use Rattle.dk_top.specs.Verdict.{Files, bytes_of}
 use Rattle.dk_top.specs.State.{LeavesRest, LeavesText, LeavesBoth}
-use Rattle.dk_top.specs.Reading.{OfFile, OfFiles, ReadsInputs, IsNamed, LeavesInputs, Stops, IsJudgement, TellsRead, IsUnread, failed, memory, long, IsUnreadText, IsImageEnding, ReadsWhole, ReadsText, ReadsBoth}
+use Rattle.dk_top.specs.Reading.{OfFile, OfFiles, ReadsInputs, IsNamed, Stops, IsJudgement, TellsRead, IsUnread, failed, memory, long, IsUnreadText, IsImageEnding, ReadsWhole, ReadsText, ReadsBoth}
 use Rattle.dk_top.proofs.LongLemmas.{judgement_stops, judgement_read, judgement_text, judgement_images}
 use Rattle.dk_top.proofs.RunLemmas.{same_count, ok_apart}
 

@@ -53,7 +53,14 @@ pub fn read_text<D: Desk>(alloc: Global, desk: &mut D, name: &str) -> Result<Vec
         (D.outside desk.old) (D.outside desk.new) }
 {
     let too_long = Ending::Source(SourceFault::TooLong);
-    read_whole(alloc, desk, InSlot::Program, name, MAX_SOURCE_BYTES, too_long)
+    read_whole(
+        alloc,
+        desk,
+        InSlot::Program,
+        name,
+        MAX_SOURCE_BYTES,
+        too_long,
+    )
 }
 
 // How a call ends whose text was not read as a program.

@@ -118,7 +118,14 @@ fn ran<D: Desk>(
 {
     one_at_age_law();
     // no list of bytes is longer
-    let file = read_whole(alloc, desk, InSlot::Image, image, usize::MAX, Ending::Memory)?;
+    let file = read_whole(
+        alloc,
+        desk,
+        InSlot::Image,
+        image,
+        usize::MAX,
+        Ending::Memory,
+    )?;
     let rounds = read_frames(alloc, &machine.compiled.ir, &file)?;
     match clocked(alloc, desk, machine, &rounds) {
         Ok(output) => Ok(output),

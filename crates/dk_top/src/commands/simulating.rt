@@ -84,7 +84,14 @@ pub fn read_all<D: Desk>(
         HasBenchFrames (IsInputRefusal hold) result (D.outside desk.old) (D.outside desk.new) }
 {
     let long_text = Ending::Verilog(VerilogFault::TooLong);
-    let text = read_whole(alloc, desk, InSlot::Program, verilog, MAX_VERILOG_BYTES, long_text)?;
+    let text = read_whole(
+        alloc,
+        desk,
+        InSlot::Program,
+        verilog,
+        MAX_VERILOG_BYTES,
+        long_text,
+    )?;
     let module = module_of(alloc, &text, hold)?;
     let long_file = Ending::Image(ImageFault::TooLong);
     let limit = MAX_PGM_BYTES as usize;

@@ -1,5 +1,5 @@
 use Rattle.std.proofs.Common.{rules}
-use Rattle.dk_top.proofs.ExplainLemmas.{long_judged, long_told}
+use Rattle.dk_top.proofs.ExplainLemmas.{long_judged}
 use Rattle.dk_top.proofs.commands.explaining.read_judged.Goals as goal
 
 pub returns-in-Err-Source-clause-judged : goal.returns-in-Err-Source-clause-judged

@@ -1,4 +1,4 @@
-use Rattle.std.proofs.Common.{ℕ, List, Option, Err}
+use Rattle.std.proofs.Common.{rules, ℕ, ◌≤◌, List, length, Option, Err, ap}
 use Rattle.dk_base.specs.FrameSizes.{size_of}
 use Rattle.dk_base.specs.declared.TheConstants.{MAX_VERILOG_BYTES, MAX_PGM_BYTES}
 use Rattle.dk_endings.specs.declared.ending.Ending.TheVariants as ending
@@ -7,9 +7,9 @@ use Rattle.dk_endings.specs.declared.verilog.VerilogFault.TheVariants as verilog
 use Rattle.dk_top.specs.declared.commands.simulating.SimInput.{SimInput}
 use Rattle.dk_top.specs.Reading.{ReadsBoth}
 use Rattle.dk_top.specs.Simulating.{IsSimInput, IsInputRefusal, HasModule, HasBenchFrames}
-use Rattle.dk_top.proofs.LongLemmas.{judgement_stops}
-use Rattle.dk_top.proofs.SimReads.{file_refused}
-use Rattle.dk_top.proofs.WholeLemmas.{EndsSecond, lifted, second_unread, both_judged}
+use Rattle.dk_top.proofs.LongLemmas.{judgement_stops, short_module}
+use Rattle.dk_top.proofs.SimReads.{file_refused, module_refused}
+use Rattle.dk_top.proofs.WholeLemmas.{EndsSecond, lifted, both_refused, second_unread, both_judged}
 use Rattle.dk_top.proofs.commands.simulating.read_all.Goals as goal
 
 -- what is made of the two files
@@ -58,3 +58,14 @@ returns g c =
     both_judged c.args.verilog.now c.args.image.now (HasModule hold) (makes hold) HasBenchFrames (IsInputRefusal hold) MAX_VERILOG_BYTES (ending.Verilog verilog.TooLong) (outside c.args.desk.now) (outside c.read_whole.new.desk) c.in_ok-text.text text c.deref.ensures.value c.in_ok-text.ensures
     (c.in_ok-module.module, made) MAX_PGM_BYTES (ending.Image image.TooLong) (outside c.read_whole-2.new.desk) c.in_ok-file.file file c.deref-2.ensures.value c.in_ok-file.ensures _
     (record { made = made; input = read.input }) (record { frame = read.frame; frames = read.frames }) tt tt
+
+pub returns-in_err-module : goal.returns-in_err-module
+returns-in_err-module g c =
+    let outside = g.D.Desk.outside in
+    let hold = c.args.hold in
+    let text = c.deref.result.now in
+    let e = c.in_err-module.field-0.0 in
+    let within : length text ≤ MAX_VERILOG_BYTES = search rules in
+    lifted (λ r. ReadsBoth c.args.verilog.now c.args.image.now (HasModule hold) (makes hold) HasBenchFrames (IsInputRefusal hold) r (outside c.args.desk.now) (outside c.read_whole.new.desk)) c.from_residual-in_err-module.result e c.from_residual-in_err-module.ensures.1
+    (both_refused c.args.verilog.now c.args.image.now (HasModule hold) (makes hold) HasBenchFrames (IsInputRefusal hold) MAX_VERILOG_BYTES (ending.Verilog verilog.TooLong) (outside c.args.desk.now) (outside c.read_whole.new.desk) c.in_ok-text.text text c.deref.ensures.value c.in_ok-text.ensures
+    c.requires.image e (λ file. module_refused hold text file e c.in_err-module.ensures.fault) (short_module hold text e within (λ is. c.in_err-module.ensures.judged (ap Err is)) c.in_err-module.ensures.fault))
