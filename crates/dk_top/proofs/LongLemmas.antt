@@ -1,7 +1,5 @@
 -- What is left of a file that is too long.
-use Rattle.std.proofs.Common.{◌≡◌, ◌⊎◌, inl, inr, ℕ, ◌+◌, ◌<◌, ◌≤◌, false, List, ◌++◌, length, drop, Option, None, Some, IfSome, Result, Ok, Err, IfErr, refl, sym, ap, ◌∙◌, subst, arith}
-use Rattle.std.proofs.Math.Seq.{drop-append_seam}
-use Rattle.std.specs.Io.KnownBytes.{prepend_known}
+use Rattle.std.proofs.Common.{◌≡◌, ◌⊎◌, inl, inr, ℕ, ◌<◌, ◌≤◌, false, List, length, Option, None, Some, IfSome, Result, Ok, Err, IfErr, refl, sym, ap, subst, arith}
 use Rattle.dk_base.specs.declared.TheConstants.{MAX_SOURCE_BYTES, MAX_VERILOG_BYTES}
 use Rattle.dk_desk.specs.Outside.{Input}
 use Rattle.dk_compile.specs.declared.compiling.Compiled.{Compiled}
@@ -25,13 +23,6 @@ use Rattle.dk_top.specs.Reading.{Stops, IsJudgement, IsSourceEnding, TellsNoText
 use Rattle.dk_top.specs.Simulating.{IsModuleEnding}
 use Rattle.dk_top.proofs.CommandLemmas.{on_all}
 use Rattle.dk_top.proofs.CompileLemmas.{PlannedAccepted, compiled_accepted}
-
--- what is left after one byte more than the limit was read
-left_over : (file bytes : List ℕ) (limit : ℕ) (rest : Option (List ℕ)) → length bytes ≡ limit + 1 → Some file ≡ prepend_known bytes rest → rest ≡ Some (drop (limit + 1) file)
-left_over file bytes limit None long is = absurd (let apart : ⊥ = cc in apart)
-left_over file bytes limit (Some r) long is =
-    let whole : file ≡ bytes ++ r = cc in
-    ap Some (sym (drop-append_seam bytes r) ∙ (ap (λ n. drop n (bytes ++ r)) long ∙ ap (drop (limit + 1)) (sym whole)))
 
 -- an ending that reports no text leaves any text
 pub no_text : (told : Option Files) (name : List ℕ) (slot : Input) (e : Ending) → TellsNoText e → IfSome told (λ f. LeavesText e (bytes_of f name) slot)
