@@ -1,7 +1,7 @@
 #!/usr/bin/env python3
 """Counts crates: the longest chain of dependencies, the large crates, the functions whose contract states only safety, how long contracts and
 lists of arguments are, how deep the blocks of functions are, and the names that are types in several crates. Prints a chain of more than eight crates,
-each crate of more than 1,500 lines or 110 functions, each of more than 1,500 lines with its clauses (three have more, and may not grow: ALL_LINES),
+each crate of more than 1,500 lines or 110 functions, each of more than 1,500 lines with its clauses (two have more, and may not grow: ALL_LINES),
 each function of more than six arguments, the number of nested functions if there are more than MOST_NESTED, a name that is a type in several crates
 and is not in SHARED (or is in SHARED and no longer one), and a number of functions that docs/PROMISES.md has not, and then ends with status 1.
 The methods of the trait `BufferForm` are left out: their callers give each argument.
@@ -23,7 +23,7 @@ TOP = Path(__file__).resolve().parent.parent
 MOST_CHAIN, MOST_LINES, MOST_FUNCTIONS, MOST_ARGUMENTS = 8, 1500, 110, 6
 MANY_CLAUSES, WIDE = 15, 100
 # The crates that have more than MOST_LINES with their clauses: none of them may grow.
-ALL_LINES = {"dk_top": 2291, "circuit": 1554, "netlist": 1524}
+ALL_LINES = {"circuit": 1554, "netlist": 1524}
 FUNCTION = re.compile(r"^\s*(?:pub(?:\([a-z]+\))?\s+)?(?:const\s+)?(?:unsafe\s+)?fn \w+.*")
 TRAIT = re.compile(r"^impl\b.*\bfor\b")
 # The nested functions may not grow in number.

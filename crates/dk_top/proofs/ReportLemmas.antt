@@ -1,5 +1,5 @@
 -- What `plan` and `check` read, and what they write to Report.
-use Rattle.std.proofs.Common.{◌≡◌, ℕ, Bool, List, length, Option, None, Some, IfSome, refl, sym, subst, arith}
+use Rattle.std.proofs.Common.{◌≡◌, ℕ, Bool, List, length, Option, None, Some, Result, Ok, Err, IfErr, IfSome, refl, sym, subst, arith}
 use Rattle.std.proofs.Math.Seq.{take-length}
 use Rattle.dk_base.specs.Stencils.{Stencils}
 use Rattle.dk_desk.specs.Calls.{IsIfTold, grown}
@@ -11,12 +11,12 @@ use Rattle.dk_endings.specs.Lines.{holds_line}
 use Rattle.dk_top.specs.Plans.{IsPlanOf}
 use Rattle.dk_top.specs.Compiling.{AreNetLines}
 use Rattle.dk_top.specs.Reports.{IsChecked}
-use Rattle.dk_compile.specs.Sources.{IsAccepted}
+use Rattle.dk_compile.specs.Sources.{IsSourceFault}
 use Rattle.dk_top.specs.Verdict.{Files, bytes_of, IsCheckAnswer}
-use Rattle.dk_desk.specs.Outside.{Outside}
-use Rattle.dk_top.specs.State.{AsksWhere, GainsText, IsClaimLine, ReportsFront}
-use Rattle.dk_top.specs.Reading.{Stops}
+use Rattle.dk_top.specs.State.{GainsText, IsClaimLine, ReportsFront}
+use Rattle.dk_top.specs.Reading.{Stops, IsJudgement, IsSourceEnding}
 use Rattle.dk_top.specs.Reporting.{HasFront, IsReportEnding}
+use Rattle.dk_top.proofs.LongLemmas.{judgement_stops}
 
 -- the report does not hold
 report_ended : (source report : List ℕ) (ir : Program) (s : Stencils) (e : Ending) → HasFront source ir s → Stops e → IsReportEnding source report e → IsCheckAnswer source report e
@@ -32,25 +32,24 @@ report_ended source report ir s (ending.Unable f) has stops h = absurd h
 report_ended source report ir s ending.ReadFault has stops h = tt
 report_ended source report ir s ending.Memory has stops h = tt
 
-pub rejected_told : (told between : Option Files) (program report : List ℕ) (ir : Program) (s : Stencils) (e : Ending) → between ≡ told → IfSome told (λ f. HasFront (bytes_of f program) ir s) → Stops e
-    → IfSome between (λ f. (source : List ℕ) → HasFront source ir s → IsReportEnding source (bytes_of f report) e) → IfSome told (λ f. IsCheckAnswer (bytes_of f program) (bytes_of f report) e)
-rejected_told None between program report ir s e same has stops h = tt
-rejected_told (Some f) between program report ir s e same has stops h =
-    let Fault : Option Files → Type 0 = λ o. IfSome o (λ g. (source : List ℕ) → HasFront source ir s → IsReportEnding source (bytes_of g report) e) in
-    report_ended (bytes_of f program) (bytes_of f report) ir s e has stops ((subst Fault same h) (bytes_of f program) has)
+-- the answers of a report of an accepted text
+pub claim_ended : (source report : List ℕ) (ir : Program) (s : Stencils) → HasFront source ir s → (r : Result Claim Ending) → IfErr r IsJudgement → IfErr r (λ e. (t : List ℕ) → HasFront t ir s → IsReportEnding t report e) → IfErr r (IsCheckAnswer source report)
+claim_ended source report ir s has (Ok claim) judged ended = tt
+claim_ended source report ir s has (Err e) judged ended = report_ended source report ir s e has (judgement_stops e judged) (ended source has)
 
--- the report holds
-pub claim_told : (told between : Option Files) (program report : List ℕ) (ir : Program) (s : Stencils) (claim : Claim) → between ≡ told → IfSome told (λ f. HasFront (bytes_of f program) ir s)
-    → IfSome between (λ f. (source : List ℕ) → HasFront source ir s → IsChecked source (bytes_of f report) claim) → IfSome told (λ f. IsChecked (bytes_of f program) (bytes_of f report) claim)
-claim_told None between program report ir s claim same has h = tt
-claim_told (Some f) between program report ir s claim same has h =
-    let Holds : Option Files → Type 0 = λ o. IfSome o (λ g. (source : List ℕ) → HasFront source ir s → IsChecked source (bytes_of g report) claim) in
-    (subst Holds same h) (bytes_of f program) has
-
--- the text's front, as far as the file is specified
-pub front_told : (told : Option Files) (name source : List ℕ) (ir : Program) (s : Stencils) → IfSome told (λ f. source ≡ bytes_of f name) → HasFront source ir s → IfSome told (λ f. HasFront (bytes_of f name) ir s)
-front_told None name source ir s is has = tt
-front_told (Some f) name source ir s is has = subst (λ t. HasFront t ir s) is has
+-- the text is not accepted
+pub source_ended : (source report : List ℕ) (e : Ending) → IsSourceEnding (IsSourceFault source) e → IsCheckAnswer source report e
+source_ended source report (ending.Source f) h = h
+source_ended source report ending.ReadFault h = tt
+source_ended source report ending.Memory h = tt
+source_ended source report ending.Done h = absurd h
+source_ended source report ending.Usage h = absurd h
+source_ended source report ending.WriteFault h = absurd h
+source_ended source report (ending.Image f) h = absurd h
+source_ended source report (ending.Verilog f) h = absurd h
+source_ended source report (ending.Stopped f) h = absurd h
+source_ended source report (ending.Rejected f) h = absurd h
+source_ended source report (ending.Unable f) h = absurd h
 
 -- all of a text is written, or a prefix of it
 pub whole : (is : List ℕ → Type 0) (text : List ℕ) (old new : Option (List ℕ)) → is text → IsIfTold new (grown old text) → GainsText is old new ending.Done
@@ -96,13 +95,3 @@ pub claim_front : (told : Option Files) (program report : List ℕ) (claim : Cla
     → IfSome told (λ f. GainsText (IsClaimLine (bytes_of f program) (bytes_of f report)) old new ending.WriteFault)
 claim_front None program report claim text old new of is written = tt
 claim_front (Some f) program report claim text old new of is written = front (IsClaimLine (bytes_of f program) (bytes_of f report)) text old new (claim, of, is) written
-
--- an ending of a report, whatever the program
-pub any_front : (told : Option Files) (name : List ℕ) (ir : Program) (s : Stencils) (e : Ending) → IfSome told (λ f. (source : List ℕ) → IsReportEnding source (bytes_of f name) e) → IfSome told (λ f. (source : List ℕ) → HasFront source ir s → IsReportEnding source (bytes_of f name) e)
-any_front None name ir s e h = tt
-any_front (Some f) name ir s e h = λ source has. h source
-
--- the report is asked for where the program is accepted
-pub order_front : (told : Option Files) (program : List ℕ) (ir : Program) (s : Stencils) (o : Outside) → IfSome told (λ f. HasFront (bytes_of f program) ir s) → IfSome told (λ f. AsksWhere (IsAccepted (bytes_of f program)) o)
-order_front None program ir s o h = tt
-order_front (Some f) program ir s o h = λ asked. (h.program, h.accepted)

@@ -24,18 +24,17 @@ use Rattle.dk_words.specs.declared.command.PowerUp.TheVariants.{Zeros}
 use Rattle.stimulus.specs.declared.stop.Stop.TheVariants.{Index, Count}
 use Rattle.dk_endings.specs.declared.ending.Ending.{Ending}
 use Rattle.dk_endings.specs.declared.ending.Ending.TheVariants as ending
-use Rattle.dk_endings.specs.declared.ending.ImageFault.TheVariants as image
 use Rattle.verilog_text.specs.declared.fault.TextFault.TheVariants as text
 use Rattle.dk_endings.specs.declared.verilog.VerilogFault.{VerilogFault}
-use Rattle.dk_base.specs.declared.TheConstants.{MAX_PGM_BYTES, MAX_VERILOG_BYTES}
+use Rattle.dk_base.specs.declared.TheConstants.{MAX_VERILOG_BYTES}
 use Rattle.dk_endings.specs.Verilog.{fault_told}
 use Rattle.dk_top.specs.Simulation.{of_text, drive_of, IsModuleOf, IsVerilogFault, FitsModule, IsSimulated, IsStopped}
 use Rattle.dk_top.specs.Verdict.{Files, bytes_of, IsSimAnswer}
 use Rattle.dk_top.specs.State.{NotesSim, IsNoted}
 use Rattle.dk_top.specs.Command.{sim}
-use Rattle.dk_top.specs.Reading.{IsUnread, Stops}
+use Rattle.dk_top.specs.Reading.{Stops}
 use Rattle.dk_top.specs.Tracing.{trace_drive, IsTraceAnswer}
-use Rattle.dk_top.specs.Simulating.{IsFileEnding, IsInputEnding, IsSimInput}
+use Rattle.dk_top.specs.Simulating.{IsModuleEnding, IsFileEnding, IsInputEnding, IsInputRefusal, IsSimInput}
 use Rattle.dk_top.proofs.SimLemmas.{OneModule, OneRounds, fits_some}
 
 -- what is specified of a text's fault is a fault of the text
@@ -48,21 +47,6 @@ own_fault (text.Net s n) hold t within is = (within, of_text (text.Net s n) is r
 
 pub told_ending : (f : TextFault) (told : VerilogFault) → told ≡ fault_told f → (hold : Option ℕ) (t : List ℕ) → length t ≤ MAX_VERILOG_BYTES → IsFault t f → IsVerilogFault hold t told
 told_ending f told e hold t within is = subst (IsVerilogFault hold t) (sym e) (own_fault f hold t within is)
-
--- a file that was not read has no other ending, whatever the module
-unread_ending : (m : NamedNetlist) (file : List ℕ) (e : Ending) → IsUnread (Some MAX_PGM_BYTES) file e → IsFileEnding m file e
-unread_ending m file (ending.Image image.TooLong) h = h
-unread_ending m file (ending.Image (image.File f)) h = absurd h
-unread_ending m file ending.ReadFault h = tt
-unread_ending m file ending.Memory h = tt
-unread_ending m file ending.Done h = absurd h
-unread_ending m file ending.Usage h = absurd h
-unread_ending m file ending.WriteFault h = absurd h
-unread_ending m file (ending.Source f) h = absurd h
-unread_ending m file (ending.Verilog f) h = absurd h
-unread_ending m file (ending.Stopped f) h = absurd h
-unread_ending m file (ending.Rejected f) h = absurd h
-unread_ending m file (ending.Unable f) h = absurd h
 
 -- the file does not fit
 file_answer : (clocks : ℕ) (power : PowerUp) (hold : Option ℕ) (t file : List ℕ) (m : NamedNetlist) (e : Ending) → IsModuleOf hold t m → Stops e → IsFileEnding m file e → IsInputEnding (drive_of clocks power hold) t file e
@@ -78,12 +62,25 @@ file_answer clocks power hold t file m (ending.Stopped f) made stops h = absurd 
 file_answer clocks power hold t file m (ending.Rejected f) made stops h = absurd h
 file_answer clocks power hold t file m (ending.Unable f) made stops h = absurd h
 
-pub file_told : (told between : Option Files) (verilog image : List ℕ) (hold : Option ℕ) (m : NamedNetlist) (e : Ending) → between ≡ told → IfSome told (λ f. IsModuleOf hold (bytes_of f verilog) m) → Stops e → IfSome between (λ f. IsFileEnding m (bytes_of f image) e)
-    → IfSome told (λ f. (clocks : ℕ) (power : PowerUp) → IsInputEnding (drive_of clocks power hold) (bytes_of f verilog) (bytes_of f image) e)
-file_told None between verilog image hold m e same made stops h = tt
-file_told (Some f) between verilog image hold m e same made stops h = λ clocks power.
-    let Fault : Option Files → Type 0 = λ o. IfSome o (λ g. IsFileEnding m (bytes_of g image) e) in
-    file_answer clocks power hold (bytes_of f verilog) (bytes_of f image) m e made stops (subst Fault same h)
+pub file_refused : (hold : Option ℕ) (t file : List ℕ) (m : NamedNetlist) (e : Ending) → IsModuleOf hold t m → Stops e → IsFileEnding m file e → IsInputRefusal hold t file e
+file_refused hold t file m e made stops h = λ clocks power. file_answer clocks power hold t file m e made stops h
+
+-- the text is that of no module
+module_answer : (clocks : ℕ) (power : PowerUp) (hold : Option ℕ) (t file : List ℕ) (e : Ending) → IsModuleEnding hold t e → IsInputEnding (drive_of clocks power hold) t file e
+module_answer clocks power hold t file (ending.Verilog f) h = h
+module_answer clocks power hold t file ending.ReadFault h = tt
+module_answer clocks power hold t file ending.Memory h = tt
+module_answer clocks power hold t file ending.Done h = absurd h
+module_answer clocks power hold t file ending.Usage h = absurd h
+module_answer clocks power hold t file ending.WriteFault h = absurd h
+module_answer clocks power hold t file (ending.Source f) h = absurd h
+module_answer clocks power hold t file (ending.Image f) h = absurd h
+module_answer clocks power hold t file (ending.Stopped f) h = absurd h
+module_answer clocks power hold t file (ending.Rejected f) h = absurd h
+module_answer clocks power hold t file (ending.Unable f) h = absurd h
+
+pub module_refused : (hold : Option ℕ) (t file : List ℕ) (e : Ending) → IsModuleEnding hold t e → IsInputRefusal hold t file e
+module_refused hold t file e h = λ clocks power. module_answer clocks power hold t file e h
 
 -- the samples of the frames are those of the images
 frame_samples : (images : List Image) → map (λ (f : Frame). f.samples) (map frame_of images) ≡ map (λ (i : Image). i.samples) images

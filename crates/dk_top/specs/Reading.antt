@@ -1,7 +1,10 @@
 -- What is read of a command's files, for the private functions.
-use Rattle.std.specs.Prelude.{◌≡◌, ◌≢◌, ℕ, ◌<◌, List, Option, Some, Result, Err, ⊤, length, map, IfSome, IsSomeAnd}
+use Rattle.std.specs.Prelude.{◌≡◌, ◌≢◌, ℕ, ◌<◌, ◌≤◌, List, Option, Some, Result, Err, ⊤, length, map, IfOk, IfErr, IfSome, OnOk, Vec, vec_len}
+use Rattle.std.specs.declared.alloc.Global.{Global}
 use Rattle.dk_desk.specs.declared.Stage.TheVariants.{Unasked}
-use Rattle.dk_desk.specs.Calls.{HasCauseIn, IsIfTold}
+use Rattle.dk_desk.specs.declared.InSlot.{InSlot}
+use Rattle.dk_desk.specs.declared.InSlot.TheVariants.{Program as ProgramSlot}
+use Rattle.dk_desk.specs.Calls.{HasCauseIn, IsIfTold, OpensOnly}
 use Rattle.dk_types.specs.Typed.{Typing}
 use Rattle.pgm_codec.specs.Images.{Image}
 use Rattle.pgm_rounds.specs.declared.round.Round.{Round}
@@ -13,6 +16,8 @@ use Rattle.pointwise_ir.specs.Programs.{Program}
 use Rattle.dk_endings.specs.declared.ending.Ending.{Ending}
 use Rattle.dk_endings.specs.declared.ending.Ending.TheVariants as ending
 use Rattle.dk_endings.specs.declared.ending.ImageFault.TheVariants as image
+use Rattle.dk_endings.specs.declared.ending.ReportFault.TheVariants as report
+use Rattle.dk_endings.specs.declared.verilog.VerilogFault.TheVariants as verilog
 use Rattle.dk_compile.specs.Fronts.{IsForm}
 use Rattle.source_fault.specs.declared.fault.SourceFault.{SourceFault}
 use Rattle.source_fault.specs.declared.fault.SourceFault.TheVariants as source
@@ -21,11 +26,9 @@ use Rattle.dk_compile.specs.Limits.{IsAcceptedAt, IsFaultAt}
 use Rattle.dk_words.specs.declared.command.Rewriting.{Rewriting}
 use Rattle.dk_words.specs.declared.command.Rewriting.TheVariants.{Widen}
 use Rattle.dk_top.specs.Output.{Fits, IsImageFault}
-use Rattle.dk_desk.specs.declared.transfer.ReadAll.{ReadAll}
-use Rattle.dk_desk.specs.declared.transfer.ReadAll.TheVariants as unread
-use Rattle.dk_desk.specs.Outside.{Outside, Input}
+use Rattle.dk_desk.specs.Outside.{Outside, Input, input}
 use Rattle.dk_top.specs.Verdict.{Terms, bytes_of, IsGoodPair, IsUnable}
-use Rattle.dk_top.specs.State.{LeavesText, LeavesImages, LeavesBoth, ReportsFront}
+use Rattle.dk_top.specs.State.{LeavesRest, LeavesText, LeavesImages, LeavesBoth, ReportsFront}
 
 -- what holds of the bytes of the file of this name, if the desk specifies its files
 abbrev pub OfFile : Outside → (name : List ℕ) → (List ℕ → Type 0) → Type 0
@@ -91,6 +94,18 @@ TellsNoText e = (file : List ℕ) (slot : Input) → LeavesText e file slot
 abbrev pub TellsNoImages : Ending → Type 0
 TellsNoImages e = (file : List ℕ) (slot : Input) → LeavesImages e file slot
 
+-- the endings that come of bytes that were read whole: a fault of what they are, or out of memory
+abbrev pub IsJudgement : Ending → Type 0
+IsJudgement (ending.Source source.TooLong) = ⊥
+IsJudgement (ending.Verilog verilog.TooLong) = ⊥
+IsJudgement (ending.Image image.TooLong) = ⊥
+IsJudgement (ending.Rejected report.TooLong) = ⊥
+IsJudgement ending.Done = ⊥
+IsJudgement ending.Usage = ⊥
+IsJudgement ending.WriteFault = ⊥
+IsJudgement ending.ReadFault = ⊥
+IsJudgement _ = ⊤
+
 -- the ending of a text whose faults are these: its fault, or a failure
 abbrev pub IsSourceEnding : (SourceFault → Type 0) → Ending → Type 0
 IsSourceEnding is (ending.Source fault) = is fault
@@ -104,12 +119,6 @@ IsRewriteEnding (Widen phases) source (ending.Unable fault) = IsUnable phases so
 IsRewriteEnding (Widen phases) source result = IsSourceEnding (IsFaultAt source 0) result
 IsRewriteEnding _ source result = IsSourceEnding (IsFaultAt source 0) result
 
--- how a call ends that did not read a file whole; `too_long` is the ending for a file above its limit
-abbrev pub unread_by : ReadAll → (too_long : Ending) → Ending
-unread_by unread.Failed too_long = ending.ReadFault
-unread_by unread.TooLong too_long = too_long
-unread_by unread.OutOfMemory too_long = ending.Memory
-
 -- why a text was not read whole: its length, or a failure
 abbrev pub IsUnreadText : (text : List ℕ) → Ending → Type 0
 IsUnreadText text (ending.Source source.TooLong) = MAX_SOURCE_BYTES < length text
@@ -117,19 +126,54 @@ IsUnreadText text ending.ReadFault = ⊤
 IsUnreadText text ending.Memory = ⊤
 IsUnreadText text _ = ⊥
 
--- why a file of images was not read whole: its length, or a failure
-abbrev pub IsUnread : (most : Option ℕ) → (file : List ℕ) → Ending → Type 0
-IsUnread most file (ending.Image image.TooLong) = IsSomeAnd most (λ n. n < length file)
-IsUnread most file ending.ReadFault = ⊤
-IsUnread most file ending.Memory = ⊤
-IsUnread most file _ = ⊥
-
 -- the ending of a file of images, for this program
 abbrev pub IsImageEnding : (most : Option ℕ) → Typing → (file : List ℕ) → Ending → Type 0
 IsImageEnding most p file (ending.Image fault) = IsImageFault most p file fault
 IsImageEnding most p file ending.ReadFault = ⊤
 IsImageEnding most p file ending.Memory = ⊤
 IsImageEnding most p file _ = ⊥
+
+-- Why a file was not read whole: a read failed, memory ran out, or it has more bytes than the limit. Then one byte more than the limit was read.
+pub data IsUnread (limit : ℕ) (too_long : Ending) (name : List ℕ) (old : Outside) (slot : Input) (e : Ending) : Type 0 where
+  failed : e ≡ ending.ReadFault → IsUnread limit too_long name old slot e
+  memory : e ≡ ending.Memory → IsUnread limit too_long name old slot e
+  long : e ≡ too_long → OfFile old name (λ file. limit < length file) → OfFile old name (λ file. LeavesRest limit file slot)
+      → IsUnread limit too_long name old slot e
+
+-- A file was opened and read whole within a limit, or the call ends.
+pub record ReadsWhole (slot : InSlot) (file : List ℕ) (limit : ℕ) (too_long : Ending) (result : Result (Vec ℕ Global) Ending) (old new : Outside) : Type 0 where
+  pub whole : IfOk result (λ bytes. OfFile old file (λ known. bytes.items ≡ known))
+  pub within : IfOk result (λ bytes. vec_len bytes ≤ limit)
+  pub unread : IfErr result (IsUnread limit too_long file old (input new slot))
+  pub name : IsIfTold (input new slot).name (Some file)
+  pub only : OpensOnly slot old new
+  pub cause : TellsRead result old new
+
+-- A program's text was read, and something was made of it: what it is, and what is then so of the text. Or the call ends.
+pub record ReadsText {A : Type 0} (file : List ℕ) (makes : List ℕ → A → Type 0) (accepts : List ℕ → Type 0) (ends : List ℕ → Ending → Type 0) (result : Result A Ending) (old new : Outside) : Type 0 where
+  pub made : IfOk result (λ a. OfFile old file (λ text. makes text a))
+  pub some : IfOk result (λ a. (text : List ℕ) × makes text a)
+  pub good : OnOk result (OfFile old file accepts)
+  pub fault : IfErr result (λ e. OfFile old file (λ text. ends text e))
+  pub stops : IfErr result Stops
+  pub left : IfErr result (λ e. OfFile old file (λ text. LeavesText e text new.program))
+  pub name : IsIfTold new.program.name (Some file)
+  pub only : OpensOnly ProgramSlot old new
+  pub cause : TellsRead result old new
+
+-- A text was read, and then a second file if the text is accepted, and something was made of both. Or the call ends.
+pub record ReadsBoth {A : Type 0} (first second : List ℕ) (accepts : List ℕ → Type 0) (makes : List ℕ → List ℕ → A → Type 0) (knows : A → Type 0)
+    (ends : List ℕ → List ℕ → Ending → Type 0) (result : Result A Ending) (old new : Outside) : Type 0 where
+  pub order : OfFile old first (λ t. new.image.stage ≢ Unasked → accepts t)
+  pub made : IfOk result (λ a. OfFiles old first second (λ t file. makes t file a))
+  pub known : IfOk result knows
+  pub fault : IfErr result (λ e. OfFiles old first second (λ t file. ends t file e))
+  pub stops : IfErr result Stops
+  pub left : IfErr result (λ e. LeavesInputs e first second old new)
+  pub program_name : IsNamed new.program first
+  pub image_name : IsNamed new.image second
+  pub only : ReadsInputs old new
+  pub cause : TellsRead result old new
 
 -- The text is accepted at this age, and this is the form of its program, whichever program it is read as.
 pub record IsFormAt (text : List ℕ) (age : ℕ) (ir : Program) : Type 0 where

@@ -16,6 +16,10 @@ pub record HasFront (source : List ℕ) (ir : Program) (s : Stencils) : Type 0 w
   pub accepted : IsAccepted source program
   pub front : IsFront source program ir s
 
+-- the text is accepted
+abbrev pub HasProgram : (source : List ℕ) → Type 0
+HasProgram source = (p : Typing) × IsAccepted source p
+
 -- what holds of each text that this is the front of
 abbrev pub OfFront : Front → (List ℕ → Type 0) → Type 0
 OfFront front P = (source : List ℕ) → HasFront source front.ir front.stencils → P source

@@ -1,7 +1,8 @@
 -- What `sim` and `trace` read and leave, for the private functions.
 use Rattle.std.specs.Prelude.{◌≡◌, ◌≢◌, ◌<◌, ◌^◌, ℕ, List, map, Option, Some, Result, Err, IfOk, IfErr, OnOk, IfSome, Vec, ⊤}
 use Rattle.std.specs.declared.alloc.Global.{Global}
-use Rattle.dk_base.specs.Frames.{Size}
+use Rattle.dk_base.specs.Frames.{Size, IsFrame}
+use Rattle.dk_words.specs.declared.command.PowerUp.{PowerUp}
 use Rattle.dk_desk.specs.declared.Stage.TheVariants.{Unasked, Open}
 use Rattle.dk_desk.specs.Outside.{Outside}
 use Rattle.dk_desk.specs.Calls.{IsIfTold, CreatesOnly}
@@ -17,7 +18,7 @@ use Rattle.stimulus.specs.Given.{AreBenchFrames}
 use Rattle.dk_base.specs.FrameSizes.{size_of}
 use Rattle.dk_top.specs.declared.commands.simulating.SimInput.{SimInput}
 use Rattle.dk_top.specs.Command.{trace}
-use Rattle.dk_top.specs.Simulation.{IsVerilogFault, IsFileFault, IsUnfit, IsModuleOf, FitsModule, IsSimulated}
+use Rattle.dk_top.specs.Simulation.{drive_of, IsVerilogFault, IsFileFault, IsUnfit, IsModuleOf, FitsModule, IsSimulated}
 use Rattle.dk_top.specs.Tracing.{IsTraceAnswer, IsStoredTrace}
 use Rattle.dk_top.specs.Verdict.{IsSimAnswer}
 use Rattle.dk_top.specs.State.{CreatesNothing, CreatesTrace, OthersStay, HasOwnFile, NotesSim}
@@ -46,6 +47,14 @@ IsInputEnding drive text file ending.ReadFault = ⊤
 IsInputEnding drive text file ending.Memory = ⊤
 IsInputEnding drive text file _ = ⊥
 
+-- the same, whatever clocks are requested
+abbrev pub IsInputRefusal : Option ℕ → (text file : List ℕ) → Ending → Type 0
+IsInputRefusal hold text file e = (clocks : ℕ) (power : PowerUp) → IsInputEnding (drive_of clocks power hold) text file e
+
+-- the text is that of a module
+abbrev pub HasModule : Option ℕ → (text : List ℕ) → Type 0
+HasModule hold text = (m : NamedNetlist) × IsModuleOf hold text m
+
 -- The file fits the module, with this size and with the frames of these rounds.
 pub record IsInput (m : NamedNetlist) (file : List ℕ) (size : Size) (rounds : List Round) : Type 0 where
   pub images : List (List Image)
@@ -56,6 +65,11 @@ pub record IsInput (m : NamedNetlist) (file : List ℕ) (size : Size) (rounds : 
 pub record IsSimInput (hold : Option ℕ) (text file : List ℕ) (m : NamedNetlist) (size : Size) (rounds : List Round) : Type 0 where
   pub made : IsModuleOf hold text m
   pub input : IsInput m file size rounds
+
+-- The images are frames of one size for the inputs of the module.
+pub record HasBenchFrames (given : SimInput) : Type 0 where
+  pub frame : IsFrame given.input.size.width given.input.size.height
+  pub frames : AreBenchFrames (din_widths given.«module».netlist) (size_of given.input.size) given.input.rounds.items
 
 -- what holds of each text and each file from which this was read
 abbrev pub OfInput : (hold : Option ℕ) → SimInput → (List ℕ → List ℕ → Type 0) → Type 0

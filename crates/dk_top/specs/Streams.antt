@@ -82,6 +82,11 @@ pub record RunsOn (source : List ℕ) (age : ℕ) (image out : List ℕ) (result
   pub read_fault : HasCauseIn (result ≡ ending.ReadFault) old.input_failures new.input_failures
   pub write_fault : HasCauseIn (result ≡ ending.WriteFault) old.output_failures new.output_failures
 
+-- The text is compiled to this, and its Verilog text denotes this module.
+pub record IsMachineOf (text : List ℕ) (age : ℕ) (machine : Machine) : Type 0 where
+  pub compiled : IsCompiledFrom text age false None machine.compiled
+  pub again : machine.«module» ≡ machine.compiled.«module»
+
 -- what holds of each text and age that this is compiled from
 abbrev pub OfCompiled : Compiled → (List ℕ → ℕ → Type 0) → Type 0
 OfCompiled c P = (source : List ℕ) (age : ℕ) → IsCompiledFrom source age false None c → P source age

@@ -1,14 +1,13 @@
 //! What a command makes of its program's text: one read, and then a function of bytes.
 
-ghost use Rattle.std.specs.Prelude.{◌≡◌, ◌≢◌, ◌≤◌, ℕ, List, Some, Err, IfOk, IfErr, OnOk, length};
+ghost use Rattle.std.specs.Prelude.{◌≤◌, ℕ, List, IfOk, IfErr, OnOk, length};
 ghost use Rattle.dk_base.specs.declared.TheConstants.{MAX_SOURCE_BYTES};
-ghost use Rattle.dk_desk.specs.Calls.{IsIfTold, OpensOnly};
 ghost use Rattle.dk_endings.specs.declared.ending.Ending.{Ending};
-ghost use Rattle.dk_top.specs.State.{LeavesText};
-ghost use Rattle.dk_top.specs.Reading.{OfFile, IsUnreadText, Stops, TellsNoText, TellsRead};
+ghost use Rattle.dk_top.specs.State.{IsFresh};
+ghost use Rattle.dk_top.specs.Reading.{ReadsText, IsUnreadText, IsJudgement};
 
 use crate::reading::read_text;
-use dk_desk::{Desk, InSlot, Stage};
+use dk_desk::Desk;
 use dk_endings::Ending;
 use std::alloc::Global;
 
@@ -35,9 +34,7 @@ pub trait OfText {
         ensures made { IfOk result (makes self.now text.now) }
         ensures good { OnOk result (good self.now text.now) }
         ensures ended { IfErr result (ends self.now text.now) }
-        ensures stops { IfErr result Stops }
-        ensures no_text { IfErr result TellsNoText }
-        ensures judged { result ≢ Err Ending.ReadFault };
+        ensures judged { IfErr result IsJudgement };
 
     // A text that is not read whole has its ending.
     ghost unread: { (words : Self) (text : List ℕ) (e : Ending) → IsUnreadText text e
@@ -52,19 +49,9 @@ pub fn read_with<W: OfText, D: Desk>(
     words: &W,
 ) -> Result<W::Made, Ending>
     requires ranges { W.ranges words.now }
-    requires fresh { (D.outside desk.old).program.stage ≡ Stage.Unasked }
-    requires before_create { (D.outside desk.old).file.stage ≡ Stage.Unasked }
-    ensures made { IfOk result (λ made. OfFile (D.outside desk.old) name.now
-        (λ source. W.makes words.now source made)) }
-    ensures good { OnOk result (OfFile (D.outside desk.old) name.now (W.good words.now)) }
-    ensures fault { IfErr result (λ e. OfFile (D.outside desk.old) name.now
-        (λ source. W.ends words.now source e)) }
-    ensures stops { IfErr result Stops }
-    ensures left { IfErr result (λ e. OfFile (D.outside desk.old) name.now
-        (λ source. LeavesText e source (D.outside desk.new).program)) }
-    ensures name { IsIfTold (D.outside desk.new).program.name (Some name.now) }
-    ensures only { OpensOnly InSlot.Program (D.outside desk.old) (D.outside desk.new) }
-    ensures cause { TellsRead result (D.outside desk.old) (D.outside desk.new) }
+    requires fresh { IsFresh (D.outside desk.old) }
+    ensures { ReadsText name.now (W.makes words.now) (W.good words.now) (W.ends words.now) result
+        (D.outside desk.old) (D.outside desk.new) }
 {
     let text = read_text(alloc, desk, name)?;
     words.make(alloc, &text)

@@ -1,51 +1,39 @@
 //! `eval`: the pictures by a program's meaning.
 
-ghost use Rattle.std.specs.Prelude.{◌≡◌, ℕ, List, ⊤, Some, Err, IfOk, IfErr};
-ghost use Rattle.dk_compile.specs.Limits.{IsAcceptedAt, IsFaultAt};
+ghost use Rattle.std.specs.Prelude.{◌≡◌, ◌≢◌, ℕ, List, Err, IfOk, IfErr};
+ghost use Rattle.dk_compile.specs.Limits.{IsFaultAt};
 ghost use Rattle.dk_top.specs.Command.{eval as eval_command};
 ghost use Rattle.dk_top.specs.Output.{output_file};
 ghost use Rattle.dk_top.specs.Program.{CanBeCompiled};
 ghost use Rattle.dk_top.specs.Verdict.{eval_terms, IsAnswer, OfPair};
-ghost use Rattle.dk_top.specs.State.{AsksWhere};
-ghost use Rattle.dk_top.specs.Reading.{AreRead, IsFormAt, IsRead, IsSourceEnding, LeavesInputs, OfFile, OfFiles, ReadsInputs, Stops, TellsRead, IsNamed};
-ghost use Rattle.dk_top.specs.Unread.{unread_text};
+ghost use Rattle.dk_top.specs.State.{IsFresh};
+ghost use Rattle.dk_top.specs.Reading.{AreRead, IsFormAt, IsRead, IsSourceEnding, ReadsBoth};
 
 use crate::files::write_file;
-use crate::of_text::{OfText, read_with};
-use crate::reading::{ending_of, read_images};
+use crate::reading::{ending_of, read_frames, read_text, read_whole};
 use crate::work::Work;
 use dk_base::{MAX_PGM_BYTES, OutOfMemory};
 use dk_compile::{one_at_age_law, one_source_law, planned};
-use dk_desk::{Desk, Stage};
-use dk_endings::Ending;
+use dk_desk::{Desk, InSlot};
+use dk_endings::{Ending, ImageFault};
 use dk_words::FileNames;
 use pgm_rounds::Round;
 use pointwise_ir::Program;
 use program_images::write_outputs;
 use std::alloc::Global;
 
-/// Makes the form of the program.
-impl OfText for FileNames<'_> {
-    type Made = Program;
-
-    ghost ranges = { λ files. ⊤ };
-
-    ghost makes = { λ files text ir. IsFormAt text 0 ir };
-
-    ghost good = { λ files text. CanBeCompiled text 0 };
-
-    ghost ends = { λ files text e. IsSourceEnding (IsFaultAt text 0) e };
-
-    fn make(&self, alloc: Global, text: &[u8]) -> Result<Program, Ending> {
-        one_source_law();
-        one_at_age_law();
-        match planned(alloc, text, 0) {
-            Ok(program) => Ok(program.ir),
-            Err(error) => Err(ending_of(error)),
-        }
+// The form of the program of a text.
+fn form_of(alloc: Global, text: &[u8]) -> Result<Program, Ending>
+    ensures form { IfOk result (IsFormAt text.now 0) }
+    ensures fault { IfErr result (IsSourceEnding (IsFaultAt text.now 0)) }
+    ensures judged { result ≢ Err Ending.ReadFault }
+{
+    one_source_law();
+    one_at_age_law();
+    match planned(alloc, text, 0) {
+        Ok(program) => Ok(program.ir),
+        Err(error) => Err(ending_of(error)),
     }
-
-    ghost unread = { λ files text e h. unread_text (IsFaultAt text 0) text e (λ long. long) h };
 }
 
 // What `eval` works on: the program's form, and the frames of its rounds.
@@ -57,32 +45,18 @@ struct Given {
 
 // Reads and judges the program, and then the file of images.
 fn read_given<D: Desk>(alloc: Global, desk: &mut D, files: &FileNames) -> Result<Given, Ending>
-    requires program { (D.outside desk.old).program.stage ≡ Stage.Unasked }
-    requires image { (D.outside desk.old).image.stage ≡ Stage.Unasked }
-    requires file { (D.outside desk.old).file.stage ≡ Stage.Unasked }
-    ensures order { OfFile (D.outside desk.old) files.now.program.now
-        (λ source. AsksWhere (IsAcceptedAt source 0) (D.outside desk.new)) }
-    ensures read { IfOk result (λ given. OfFiles (D.outside desk.old) files.now.program.now files.now.image.now
-        (λ source file. IsRead eval_terms source file given.ir given.rounds.items)) }
-    ensures frames { IfOk result (λ given. AreRead given.ir given.rounds.items) }
-    ensures fault { IfErr result (λ e. OfFiles (D.outside desk.old) files.now.program.now files.now.image.now
-        (λ source file. IsAnswer eval_terms source file e)) }
-    ensures stops { IfErr result Stops }
-    ensures left { IfErr result (λ e. LeavesInputs e files.now.program.now files.now.image.now (D.outside desk.old)
-        (D.outside desk.new)) }
-    ensures program_name { IsNamed (D.outside desk.new).program files.now.program.now }
-    ensures image_name { IsNamed (D.outside desk.new).image files.now.image.now }
-    ensures only { ReadsInputs (D.outside desk.old) (D.outside desk.new) }
-    ensures cause { TellsRead result (D.outside desk.old) (D.outside desk.new) }
+    requires { IsFresh (D.outside desk.old) }
+    ensures { ReadsBoth files.now.program.now files.now.image.now (λ source. CanBeCompiled source 0)
+        (λ source file given. IsRead eval_terms source file given.ir given.rounds.items)
+        (λ given. AreRead given.ir given.rounds.items) (IsAnswer eval_terms) result (D.outside desk.old) (D.outside desk.new) }
 {
-    let ir = match read_with(alloc, desk, files.program, files) {
-        Ok(ir) => ir,
-        Err(ending) => return Err(ending),
-    };
-    match read_images(alloc, desk, &ir, files.image, Some(MAX_PGM_BYTES as usize)) {
-        Ok(rounds) => Ok(Given { ir, rounds }),
-        Err(ending) => Err(ending),
-    }
+    let text = read_text(alloc, desk, files.program)?;
+    let ir = form_of(alloc, &text)?;
+    let too_long = Ending::Image(ImageFault::TooLong);
+    let limit = MAX_PGM_BYTES as usize;
+    let file = read_whole(alloc, desk, InSlot::Image, files.image, limit, too_long)?;
+    let rounds = read_frames(alloc, &ir, &file)?;
+    Ok(Given { ir, rounds })
 }
 
 // The output file by the program's meaning.

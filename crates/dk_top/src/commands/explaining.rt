@@ -4,15 +4,16 @@ ghost use Rattle.std.specs.Prelude.{◌≡◌, ◌⊎◌, ◌≤◌, Some, Err, 
 ghost use Rattle.dk_base.specs.declared.TheConstants.{MAX_SOURCE_BYTES};
 ghost use Rattle.dk_desk.specs.Calls.{IsIfTold, OpensOnly};
 ghost use Rattle.dk_top.specs.Command.{explain as explain_command};
+ghost use Rattle.dk_top.specs.State.{IsFresh};
 ghost use Rattle.dk_top.specs.Reading.{OfFile, TellsRead};
 ghost use Rattle.dk_top.specs.Refusals.{IsJudgedAs, IsRefusedFor, TellsNoLength, LeavesJudged};
 
-use crate::files::{read_input, write_report};
+use crate::files::write_report;
+use crate::reading::read_text;
 use crate::work::Work;
 use dk_base::MAX_SOURCE_BYTES;
 use dk_compile::{SourceFault, first_fault};
-use dk_desk::transfer::ReadAll;
-use dk_desk::{Desk, InSlot, Stage};
+use dk_desk::{Desk, InSlot};
 use dk_endings::Ending;
 use dk_words::ExplainWords;
 use fault_messages::explanation;
@@ -58,8 +59,7 @@ fn judge_text(alloc: Global, name: &str, text: &[u8]) -> Result<Judged, Ending>
 
 // Reads and judges the program. Of a program that is too long no text is there.
 fn read_judged<D: Desk>(alloc: Global, desk: &mut D, name: &str) -> Result<Judged, Ending>
-    requires fresh { (D.outside desk.old).program.stage ≡ Stage.Unasked }
-    requires before_create { (D.outside desk.old).file.stage ≡ Stage.Unasked }
+    requires { IsFresh (D.outside desk.old) }
     ensures judged { IfOk result (λ j. OfFile (D.outside desk.old) name.now
         (λ source. IsJudgedAs name.now source j)) }
     ensures left { IfOk result (λ j. OfFile (D.outside desk.old) name.now
@@ -69,11 +69,10 @@ fn read_judged<D: Desk>(alloc: Global, desk: &mut D, name: &str) -> Result<Judge
     ensures only { OpensOnly InSlot.Program (D.outside desk.old) (D.outside desk.new) }
     ensures cause { TellsRead result (D.outside desk.old) (D.outside desk.new) }
 {
-    match read_input(alloc, desk, InSlot::Program, name, MAX_SOURCE_BYTES) {
+    match read_text(alloc, desk, name) {
         Ok(text) => judge_text(alloc, name, &text),
-        Err(ReadAll::TooLong) => explained(alloc, name, &[], SourceFault::TooLong),
-        Err(ReadAll::Failed) => Err(Ending::ReadFault),
-        Err(ReadAll::OutOfMemory) => Err(Ending::Memory),
+        Err(Ending::Source(_)) => explained(alloc, name, &[], SourceFault::TooLong),
+        Err(ending) => Err(ending),
     }
 }
 

@@ -38,10 +38,7 @@ impl OfText for NetsWords<'_> {
             age: self.age,
             block: self.block,
         };
-        let circuit = match compiled(alloc, text, options) {
-            Ok(circuit) => circuit,
-            Err(ending) => return Err(ending),
-        };
+        let circuit = compiled(alloc, text, options)?;
         let nets = NamedNets {
             ir: &circuit.ir,
             plan: &circuit.plan,

@@ -1,28 +1,29 @@
 //! `run`: the circuit of a program is clocked on a file of images.
 
-ghost use Rattle.std.specs.Prelude.{◌≡◌, ◌≤◌, ℕ, List, false, None, Some, IfOk, IfErr};
+ghost use Rattle.std.specs.Prelude.{◌≡◌, ◌≤◌, ℕ, List, false, None, IfOk};
 ghost use Rattle.dk_base.specs.declared.TheConstants.{MAX_AGE};
-ghost use Rattle.dk_desk.specs.Calls.{IsIfTold, OpensOnly};
 ghost use Rattle.dk_top.specs.Command.{run as run_command};
 ghost use Rattle.dk_compile.specs.Limits.{IsFaultAt};
+ghost use Rattle.dk_top.specs.Program.{CanBeCompiled};
 ghost use Rattle.dk_top.specs.Compiling.{IsCompiledFrom};
-ghost use Rattle.dk_top.specs.State.{LeavesText};
 ghost use Rattle.dk_top.specs.Streaming.{IsOnePort};
 ghost use Rattle.dk_top.specs.Performing.{OfEnding};
-ghost use Rattle.dk_top.specs.Streams.{AwaitsImages, ClocksFile, ClocksRounds, IsMachine, RunsMachine};
+ghost use Rattle.dk_top.specs.Streams.{AwaitsImages, ClocksFile, ClocksRounds, IsMachine, IsMachineOf, RunsMachine};
+ghost use Rattle.dk_top.specs.Unread.{unread_text};
 ghost use Rattle.dk_types.specs.Typed.{Typing};
 ghost use Rattle.dk_compile.specs.Fronts.{IsForm};
-ghost use Rattle.dk_top.specs.Reading.{OfFile, AreRead, IsSourceEnding, Stops, TellsRead};
+ghost use Rattle.dk_top.specs.Reading.{AreRead, IsSourceEnding};
 
-use crate::commands::compiling::read_compiled;
+use crate::commands::compiling::compiled;
 use crate::commands::streaming::run_streamed;
 use crate::files::write_file;
 use crate::laws::notes_agree_law;
-use crate::reading::read_images;
+use crate::of_text::{OfText, read_with};
+use crate::reading::{read_frames, read_whole};
 use crate::work::Work;
 use dk_base::OutOfMemory;
 use dk_compile::{Compiled, Options, drive_shows_law, is_one_port, one_at_age_law, one_source_law};
-use dk_desk::{Desk, InSlot, Stage};
+use dk_desk::{Desk, InSlot};
 use dk_endings::Ending;
 use dk_words::RunWords;
 use netlist::Module;
@@ -76,43 +77,32 @@ pub fn clocked<D: Desk>(
     }
 }
 
-// Reads, judges and compiles the program, and reads its Verilog text again.
-fn read_machine<D: Desk>(
-    alloc: Global,
-    desk: &mut D,
-    program: &str,
-    age: u8,
-) -> Result<Machine, Ending>
-    requires fresh { (D.outside desk.old).program.stage ≡ Stage.Unasked }
-    requires before_create { (D.outside desk.old).file.stage ≡ Stage.Unasked }
-    requires age { age ≤ MAX_AGE }
-    ensures compiled { IfOk result (λ m. OfFile (D.outside desk.old) program.now
-        (λ source. IsCompiledFrom source age false None m.compiled)) }
-    ensures some { IfOk result (λ m. (source : List ℕ)
-        × IsCompiledFrom source age false None m.compiled) }
-    ensures again { IfOk result (λ m. m.«module» ≡ m.compiled.«module») }
-    ensures fault { IfErr result (λ e. OfFile (D.outside desk.old) program.now
-        (λ source. IsSourceEnding (IsFaultAt source age) e)) }
-    ensures stops { IfErr result Stops }
-    ensures left { IfErr result (λ e. OfFile (D.outside desk.old) program.now
-        (λ source. LeavesText e source (D.outside desk.new).program)) }
-    ensures name { IsIfTold (D.outside desk.new).program.name (Some program.now) }
-    ensures only { OpensOnly InSlot.Program (D.outside desk.old) (D.outside desk.new) }
-    ensures cause { TellsRead result (D.outside desk.old) (D.outside desk.new) }
-{
-    let options = Options {
-        enable: false,
-        age,
-        block: None,
-    };
-    let compiled = match read_compiled(alloc, desk, program, options) {
-        Ok(compiled) => compiled,
-        Err(ending) => return Err(ending),
-    };
-    match read_again(alloc, &compiled) {
-        Ok(module) => Ok(Machine { compiled, module }),
-        Err(_) => Err(Ending::Memory),
+/// Compiles the program, and reads its Verilog text again.
+impl OfText for RunWords<'_> {
+    type Made = Machine;
+
+    ghost ranges = { λ words. words.age ≤ MAX_AGE };
+
+    ghost makes = { λ words text machine. IsMachineOf text words.age machine };
+
+    ghost good = { λ words text. CanBeCompiled text words.age };
+
+    ghost ends = { λ words text e. IsSourceEnding (IsFaultAt text words.age) e };
+
+    fn make(&self, alloc: Global, text: &[u8]) -> Result<Machine, Ending> {
+        let options = Options {
+            enable: false,
+            age: self.age,
+            block: None,
+        };
+        let compiled = compiled(alloc, text, options)?;
+        match read_again(alloc, &compiled) {
+            Ok(module) => Ok(Machine { compiled, module }),
+            Err(_) => Err(Ending::Memory),
+        }
     }
+
+    ghost unread = { λ words text e h. unread_text (IsFaultAt text words.age) text e (λ long. long) h };
 }
 
 // Reads and judges the file of images, and returns the file of the pictures that the module shows.
@@ -127,10 +117,16 @@ fn ran<D: Desk>(
     ensures { ClocksFile machine.now image.now result (D.outside desk.old) (D.outside desk.new) }
 {
     one_at_age_law();
-    let rounds = match read_images(alloc, desk, &machine.compiled.ir, image, None) {
-        Ok(rounds) => rounds,
-        Err(ending) => return Err(ending),
-    };
+    // no list of bytes is longer
+    let file = read_whole(
+        alloc,
+        desk,
+        InSlot::Image,
+        image,
+        usize::MAX,
+        Ending::Memory,
+    )?;
+    let rounds = read_frames(alloc, &machine.compiled.ir, &file)?;
     match clocked(alloc, desk, machine, &rounds) {
         Ok(output) => Ok(output),
         Err(_) => Err(Ending::Memory),
@@ -165,7 +161,7 @@ impl Work for RunWords<'_> {
     fn perform<D: Desk>(&self, alloc: Global, desk: &mut D) -> Result<(), Ending> {
         one_source_law();
         one_at_age_law();
-        let machine = read_machine(alloc, desk, self.program, self.age)?;
+        let machine = read_with(alloc, desk, self.program, self)?;
         if is_one_port(&machine.compiled.ir) {
             run_streamed(alloc, desk, &machine, self.image, self.out)
         } else {

@@ -3,21 +3,20 @@
 ghost use Rattle.std.specs.Prelude.{◌≡◌, ◌≢◌, ◌≤◌, ◌<◌, ◌^◌, ℕ, List, Some, Err, IfOk, IfErr, IfSome, length};
 ghost use Rattle.dk_base.specs.Frames.{IsFrame};
 ghost use Rattle.dk_base.specs.FrameSizes.{size_of};
-ghost use Rattle.dk_desk.specs.Calls.{IsIfTold, OpensOnly};
 ghost use Rattle.cycle_sim.specs.Ports.{din_widths};
 ghost use Rattle.stimulus.specs.Given.{AreBenchFrames};
-ghost use Rattle.dk_words.specs.declared.command.PowerUp.{PowerUp as OnePower};
 ghost use Rattle.dk_top.specs.Command.{sim as sim_command};
 ghost use Rattle.dk_top.specs.Simulation.{drive_of, fill_of as fill_named, IsModuleOf};
-ghost use Rattle.dk_top.specs.State.{AsksWhereModule, LeavesText, LeavesImages};
-ghost use Rattle.dk_top.specs.Simulating.{IsModuleEnding, IsFileEnding, IsInput, IsInputEnding, IsSimInput, CanDrive, ShowsPictures};
-ghost use Rattle.dk_top.specs.Reading.{LeavesInputs, ReadsInputs, OfFiles, OfFile, Stops, TellsNoText, TellsNoImages, TellsRead, IsNamed};
+ghost use Rattle.dk_top.specs.State.{IsFresh};
+ghost use Rattle.dk_top.specs.Simulating.{IsModuleEnding, IsFileEnding, IsInput, IsInputRefusal, IsSimInput, HasModule, HasBenchFrames, CanDrive, ShowsPictures};
+ghost use Rattle.dk_top.specs.Reading.{ReadsBoth, IsJudgement, Stops};
 
-use crate::files::{read_file, read_input, unread, write_file};
+use crate::files::write_file;
+use crate::reading::read_whole;
 use crate::work::Work;
 use cycle_sim::{Fill, dins_of};
 use dk_base::{MAX_PGM_BYTES, MAX_VERILOG_BYTES};
-use dk_desk::{Desk, InSlot, Stage};
+use dk_desk::{Desk, InSlot};
 use dk_endings::{Ending, ImageFault, VerilogFault, VerilogKind};
 use dk_words::{PowerUp, SimWords};
 use netlist::Module;
@@ -46,32 +45,6 @@ fn module_of(alloc: Global, text: &[u8], hold: Option<u32>) -> Result<Module, En
     }
 }
 
-// Reads and judges the Verilog text.
-fn read_module<D: Desk>(
-    alloc: Global,
-    desk: &mut D,
-    name: &str,
-    hold: Option<u32>,
-) -> Result<Module, Ending>
-    requires fresh { (D.outside desk.old).program.stage ≡ Stage.Unasked }
-    requires before_create { (D.outside desk.old).file.stage ≡ Stage.Unasked }
-    ensures made { IfOk result (λ m. OfFile (D.outside desk.old) name.now
-        (λ text. IsModuleOf hold text m)) }
-    ensures fault { IfErr result (λ e. OfFile (D.outside desk.old) name.now
-        (λ text. IsModuleEnding hold text e)) }
-    ensures stops { IfErr result Stops }
-    ensures left { IfErr result (λ e. OfFile (D.outside desk.old) name.now
-        (λ text. LeavesText e text (D.outside desk.new).program)) }
-    ensures name { IsIfTold (D.outside desk.new).program.name (Some name.now) }
-    ensures only { OpensOnly InSlot.Program (D.outside desk.old) (D.outside desk.new) }
-    ensures cause { TellsRead result (D.outside desk.old) (D.outside desk.new) }
-{
-    match read_input(alloc, desk, InSlot::Program, name, MAX_VERILOG_BYTES) {
-        Ok(text) => module_of(alloc, &text, hold),
-        Err(error) => Err(unread(error, Ending::Verilog(VerilogFault::TooLong))),
-    }
-}
-
 // The rounds of a file within its limit, for a module.
 fn rounds_for(alloc: Global, module: &Module, file: &[u8]) -> Result<BenchInput, Ending>
     requires { length file.now ≤ MAX_PGM_BYTES }
@@ -81,47 +54,13 @@ fn rounds_for(alloc: Global, module: &Module, file: &[u8]) -> Result<BenchInput,
     ensures frames { IfOk result
         (λ input. AreBenchFrames (din_widths «module».now.netlist) (size_of input.size) input.rounds.items) }
     ensures fault { IfErr result (IsFileEnding «module».now file.now) }
-    ensures stops { IfErr result Stops }
-    ensures no_text { IfErr result TellsNoText }
-    ensures no_images { IfErr result TellsNoImages }
-    ensures judged { result ≢ Err Ending.ReadFault }
+    ensures judged { IfErr result IsJudgement }
 {
     match stimulus::read_input(alloc, dins_of(module), file) {
         Ok(input) => Ok(input),
         Err(FileError::Fault(fault)) => Err(Ending::Image(ImageFault::File(fault))),
         Err(FileError::OutOfMemory) => Err(Ending::Memory),
     }
-}
-
-// Reads and judges the file of images, for a module.
-fn read_images<D: Desk>(
-    alloc: Global,
-    desk: &mut D,
-    module: &Module,
-    name: &str,
-) -> Result<BenchInput, Ending>
-    requires fresh { (D.outside desk.old).image.stage ≡ Stage.Unasked }
-    requires before_create { (D.outside desk.old).file.stage ≡ Stage.Unasked }
-    ensures input { IfOk result (λ input. OfFile (D.outside desk.old) name.now
-        (λ file. IsInput «module».now file (size_of input.size) input.rounds.items)) }
-    ensures frame { IfOk result (λ input. IsFrame input.size.width input.size.height) }
-    ensures frames { IfOk result
-        (λ input. AreBenchFrames (din_widths «module».now.netlist) (size_of input.size) input.rounds.items) }
-    ensures fault { IfErr result (λ e. OfFile (D.outside desk.old) name.now
-        (λ file. IsFileEnding «module».now file e)) }
-    ensures stops { IfErr result Stops }
-    ensures left { IfErr result (λ e. OfFile (D.outside desk.old) name.now
-        (λ file. LeavesImages e file (D.outside desk.new).image)) }
-    ensures no_text { IfErr result TellsNoText }
-    ensures name { IsIfTold (D.outside desk.new).image.name (Some name.now) }
-    ensures only { OpensOnly InSlot.Image (D.outside desk.old) (D.outside desk.new) }
-    ensures cause { TellsRead result (D.outside desk.old) (D.outside desk.new) }
-{
-    let file = match read_file(alloc, desk, name, Some(MAX_PGM_BYTES as usize)) {
-        Ok(file) => file,
-        Err(ending) => return Err(ending),
-    };
-    rounds_for(alloc, module, &file)
 }
 
 // What `sim` and `trace` work on: a module, and the images that it is driven with.
@@ -139,35 +78,26 @@ pub fn read_all<D: Desk>(
     image: &str,
     hold: Option<u32>,
 ) -> Result<SimInput, Ending>
-    requires program { (D.outside desk.old).program.stage ≡ Stage.Unasked }
-    requires image { (D.outside desk.old).image.stage ≡ Stage.Unasked }
-    requires file { (D.outside desk.old).file.stage ≡ Stage.Unasked }
-    ensures order { OfFile (D.outside desk.old) verilog.now
-        (λ text. AsksWhereModule hold text (D.outside desk.new)) }
-    ensures input { IfOk result (λ given. OfFiles (D.outside desk.old) verilog.now image.now
-        (λ text file. IsSimInput hold text file given.«module» (size_of given.input.size) given.input.rounds.items)) }
-    ensures frame { IfOk result (λ given. IsFrame given.input.size.width given.input.size.height) }
-    ensures frames { IfOk result
-        (λ given. AreBenchFrames (din_widths given.«module».netlist) (size_of given.input.size) given.input.rounds.items) }
-    ensures fault { IfErr result (λ e. OfFiles (D.outside desk.old) verilog.now image.now
-        (λ text file. (clocks : ℕ) (power : OnePower)
-        → IsInputEnding (drive_of clocks power hold) text file e)) }
-    ensures stops { IfErr result Stops }
-    ensures left { IfErr result (λ e. LeavesInputs e verilog.now image.now (D.outside desk.old)
-        (D.outside desk.new)) }
-    ensures program_name { IsNamed (D.outside desk.new).program verilog.now }
-    ensures image_name { IsNamed (D.outside desk.new).image image.now }
-    ensures only { ReadsInputs (D.outside desk.old) (D.outside desk.new) }
-    ensures cause { TellsRead result (D.outside desk.old) (D.outside desk.new) }
+    requires { IsFresh (D.outside desk.old) }
+    ensures { ReadsBoth verilog.now image.now (HasModule hold)
+        (λ text file given. IsSimInput hold text file given.«module» (size_of given.input.size) given.input.rounds.items)
+        HasBenchFrames (IsInputRefusal hold) result (D.outside desk.old) (D.outside desk.new) }
 {
-    let module = match read_module(alloc, desk, verilog, hold) {
-        Ok(module) => module,
-        Err(ending) => return Err(ending),
-    };
-    match read_images(alloc, desk, &module, image) {
-        Ok(input) => Ok(SimInput { module, input }),
-        Err(ending) => Err(ending),
-    }
+    let long_text = Ending::Verilog(VerilogFault::TooLong);
+    let text = read_whole(
+        alloc,
+        desk,
+        InSlot::Program,
+        verilog,
+        MAX_VERILOG_BYTES,
+        long_text,
+    )?;
+    let module = module_of(alloc, &text, hold)?;
+    let long_file = Ending::Image(ImageFault::TooLong);
+    let limit = MAX_PGM_BYTES as usize;
+    let file = read_whole(alloc, desk, InSlot::Image, image, limit, long_file)?;
+    let input = rounds_for(alloc, &module, &file)?;
+    Ok(SimInput { module, input })
 }
 
 // What registers and arrays hold at power-up, by the command's word.

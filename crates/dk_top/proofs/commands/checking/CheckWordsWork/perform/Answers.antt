@@ -20,7 +20,7 @@ returns-in_err-write_report g c =
     let before : (outside c.read_claim.new.desk).report ≡ old.report = ap (λ (o : Outside). o.report) c.in_ok-claim.ensures.only in
     let line : c.as_bytes.result.now ≡ holds_line c.in_ok-claim.claim.bits c.in_ok-claim.claim.latency = c.as_bytes.ensures.value ∙ (c.deref.ensures.0 ∙ c.holds_line.ensures) in
     let report : HasReported (Some (check_command w.program.now w.report.now)) ending.WriteFault old new =
-    claim_front _ w.program.now w.report.now c.in_ok-claim.claim c.as_bytes.result.now _ _ c.in_ok-claim.ensures.holds line
+    claim_front _ w.program.now w.report.now c.in_ok-claim.claim c.as_bytes.result.now _ _ c.in_ok-claim.ensures.made line
     (subst (λ r. ReportsFront c.as_bytes.result.now r new.report) before c.in_err-write_report.ensures.front) in
     at_fault (λ e. PerformsWork (check_command w.program.now w.report.now) e old new) c.from_residual-in_err-write_report.result c.in_err-write_report.field-0.0 c.from_residual-in_err-write_report.ensures.1 c.in_err-write_report.ensures.fault (record {
       taken = search rules;
@@ -55,7 +55,7 @@ returns g c =
     let before : (outside c.read_claim.new.desk).report ≡ old.report = ap (λ (o : Outside). o.report) c.in_ok-claim.ensures.only in
     let line : c.as_bytes.result.now ≡ holds_line c.in_ok-claim.claim.bits c.in_ok-claim.claim.latency = c.as_bytes.ensures.value ∙ (c.deref.ensures.0 ∙ c.holds_line.ensures) in
     let report : HasReported (Some (check_command w.program.now w.report.now)) ending.Done old new =
-    claim_whole _ w.program.now w.report.now c.in_ok-claim.claim c.as_bytes.result.now _ _ c.in_ok-claim.ensures.holds line
+    claim_whole _ w.program.now w.report.now c.in_ok-claim.claim c.as_bytes.result.now _ _ c.in_ok-claim.ensures.made line
     (subst (λ r. IsIfTold new.report (grown r c.as_bytes.result.now)) before c.in_ok-write_report.ensures.whole) in
     record {
       taken = search rules;

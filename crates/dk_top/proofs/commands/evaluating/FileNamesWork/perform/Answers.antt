@@ -47,10 +47,10 @@ returns-in_err-write_file g c =
     let old : Outside = outside c.args.desk.now in
     let new : Outside = outside c.write_file.new.desk in
     let given = c.in_ok-given.given in
-    let verdict : EndsRight (Some (eval_command w.program.now w.image.now w.out.now)) ending.WriteFault old = read_good _ eval_terms w.program.now w.image.now given.ir given.rounds.items c.in_ok-given.ensures.read in
+    let verdict : EndsRight (Some (eval_command w.program.now w.image.now w.out.now)) ending.WriteFault old = read_good _ eval_terms w.program.now w.image.now given.ir given.rounds.items c.in_ok-given.ensures.made in
     let output : HasStored (Some (eval_command w.program.now w.image.now w.out.now)) ending.WriteFault old new = λ opened.
     stored_told _ eval_terms w.program.now w.image.now _ c.in-Ok.output.items IsPrefix
-    (read_pair _ w.program.now w.image.now given.ir given.rounds.items (λ source file. OfPair eval_terms source file (λ p images. c.in-Ok.output.items ≡ output_file p images)) c.in_ok-given.ensures.read c.in-Ok.ensures.output)
+    (read_pair _ w.program.now w.image.now given.ir given.rounds.items (λ source file. OfPair eval_terms source file (λ p images. c.in-Ok.output.items ≡ output_file p images)) c.in_ok-given.ensures.made c.in-Ok.ensures.output)
     (subst (λ bytes. IfSome new.file.bytes (λ written. IsPrefix written bytes)) c.deref.ensures.value (c.in_err-write_file.ensures.prefix opened)) in
     at_fault (λ e. PerformsWork (eval_command w.program.now w.image.now w.out.now) e old new) c.from_residual-in_err-write_file.result c.in_err-write_file.field-0.0 c.from_residual-in_err-write_file.ensures.1 c.in_err-write_file.ensures.fault (search (rules, verdict, output))
 
@@ -61,9 +61,9 @@ returns g c =
     let old : Outside = outside c.args.desk.now in
     let new : Outside = outside c.write_file.new.desk in
     let given = c.in_ok-given.given in
-    let verdict : EndsRight (Some (eval_command w.program.now w.image.now w.out.now)) ending.Done old = read_good _ eval_terms w.program.now w.image.now given.ir given.rounds.items c.in_ok-given.ensures.read in
+    let verdict : EndsRight (Some (eval_command w.program.now w.image.now w.out.now)) ending.Done old = read_good _ eval_terms w.program.now w.image.now given.ir given.rounds.items c.in_ok-given.ensures.made in
     let output : HasStored (Some (eval_command w.program.now w.image.now w.out.now)) ending.Done old new = λ opened.
     stored_told _ eval_terms w.program.now w.image.now _ c.in-Ok.output.items (λ written whole. written ≡ whole)
-    (read_pair _ w.program.now w.image.now given.ir given.rounds.items (λ source file. OfPair eval_terms source file (λ p images. c.in-Ok.output.items ≡ output_file p images)) c.in_ok-given.ensures.read c.in-Ok.ensures.output)
+    (read_pair _ w.program.now w.image.now given.ir given.rounds.items (λ source file. OfPair eval_terms source file (λ p images. c.in-Ok.output.items ≡ output_file p images)) c.in_ok-given.ensures.made c.in-Ok.ensures.output)
     (subst (λ bytes. IfSome new.file.bytes (λ written. written ≡ bytes)) c.deref.ensures.value c.in_ok-write_file.ensures.whole) in
     search (rules, verdict, output)

@@ -21,7 +21,29 @@ returns-in_err-write_report g c =
     nets_front _ w.program.now w.age w.enable w.block c.in_ok-lines.lines.items _ _ c.in_ok-lines.ensures.made
     (subst (λ t. ReportsFront t old.report new.report) c.deref.ensures.value
     (subst (λ r. ReportsFront c.deref.result.now r new.report) before c.in_err-write_report.ensures.front)) in
-    at_fault (λ e. PerformsWork (nets_command w.program.now w.enable w.age w.block) e old new) c.from_residual-in_err-write_report.result c.in_err-write_report.field-0.0 c.from_residual-in_err-write_report.ensures.1 c.in_err-write_report.ensures.fault (search (rules, report))
+    at_fault (λ e. PerformsWork (nets_command w.program.now w.enable w.age w.block) e old new) c.from_residual-in_err-write_report.result c.in_err-write_report.field-0.0 c.from_residual-in_err-write_report.ensures.1 c.in_err-write_report.ensures.fault (record {
+      taken = search rules;
+      verdict = search rules;
+      read_fault = search rules;
+      write_fault = search rules;
+      asked = search rules;
+      order = search rules;
+      too_long = search rules;
+      created = search rules;
+      begun = search rules;
+      reads = search rules;
+      written = search rules;
+      output = search rules;
+      files = search rules;
+      files_stay = search rules;
+      own = search rules;
+      report = report;
+      report_stays = search rules;
+      notes = search rules;
+      notes_stay = search rules;
+      fault = search rules;
+      fault_count = search rules;
+    })
 
 pub returns : goal.returns
 returns g c =
@@ -34,7 +56,29 @@ returns g c =
     nets_whole _ w.program.now w.age w.enable w.block c.in_ok-lines.lines.items _ _ c.in_ok-lines.ensures.made
     (subst (λ t. IsIfTold new.report (grown old.report t)) c.deref.ensures.value
     (subst (λ r. IsIfTold new.report (grown r c.deref.result.now)) before c.in_ok-write_report.ensures.whole)) in
-    search (rules, report)
+    record {
+      taken = search rules;
+      verdict = search rules;
+      read_fault = search rules;
+      write_fault = search rules;
+      asked = search rules;
+      order = search rules;
+      too_long = search rules;
+      created = search rules;
+      begun = search rules;
+      reads = search rules;
+      written = search rules;
+      output = search rules;
+      files = search rules;
+      files_stay = search rules;
+      own = search rules;
+      report = report;
+      report_stays = search rules;
+      notes = search rules;
+      notes_stay = search rules;
+      fault = search rules;
+      fault_count = search rules;
+    }
 
 pub read_with-requires-clause-ranges : goal.read_with-requires-clause-ranges
 read_with-requires-clause-ranges g c = (c.requires.ranges.0, block_low c.args.self.now.block c.requires.ranges.1)

@@ -34,7 +34,7 @@ returns-in-Ok-plan_report-clause-good c =
 pub returns-in-Err-clause-ended : goal.returns-in-Err-clause-ended
 returns-in-Err-clause-ended c = c.ending_of.ensures.fault_at c.args.text.now c.args.self.now.age c.in-Err.ensures.fault
 
-pub returns-in-Err-clause-no_text : goal.returns-in-Err-clause-no_text
-returns-in-Err-clause-no_text c =
+pub returns-in-Err-clause-judged : goal.returns-in-Err-clause-judged
+returns-in-Err-clause-judged c =
     let age = c.args.self.now.age in
-    short_source (IsFaultAt c.args.text.now age) c.args.text.now c.ending_of.result (λ long. long) c.requires.within (c.ending_of.ensures.fault_at c.args.text.now age c.in-Err.ensures.fault)
+    short_source (IsFaultAt c.args.text.now age) c.args.text.now c.ending_of.result (λ long. long) c.requires.within c.ending_of.ensures.judged (c.ending_of.ensures.fault_at c.args.text.now age c.in-Err.ensures.fault)

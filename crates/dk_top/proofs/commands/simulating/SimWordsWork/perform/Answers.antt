@@ -60,7 +60,7 @@ returns-in_err-output g c =
     let new : Outside = g.D.Desk.outside c.pictures.new.desk in
     let e : Ending = c.in_err-output.field-0.0 in
     let verdict : EndsRight (Some (sim_command w.verilog.now w.clocks w.image.now w.out.now w.fill w.hold)) e old =
-    of_input _ w.verilog.now w.image.now d (drive_of w.clocks w.fill w.hold) given.module (size_of given.input.size) given.input.rounds.items (λ x t i. IsSimAnswer x t i e) same c.in_ok-given.ensures.input c.in_err-output.ensures.fault in
+    of_input _ w.verilog.now w.image.now d (drive_of w.clocks w.fill w.hold) given.module (size_of given.input.size) given.input.rounds.items (λ x t i. IsSimAnswer x t i e) same c.in_ok-given.ensures.made c.in_err-output.ensures.fault in
     let too_long : LeavesRestOf (Some (sim_command w.verilog.now w.clocks w.image.now w.out.now w.fill w.hold)) e old new =
     both_left _ w.verilog.now w.image.now _ _ e (no_text _ w.verilog.now _ e c.in_err-output.ensures.no_text) (no_images _ w.image.now _ e c.in_err-output.ensures.no_images) in
     let read : Outside = g.D.Desk.outside c.read_all.new.desk in
@@ -105,10 +105,10 @@ returns-in_err-write_file g c =
     let old : Outside = g.D.Desk.outside c.args.desk.now in
     let new : Outside = g.D.Desk.outside c.write_file.new.desk in
     let verdict : EndsRight (Some (sim_command w.verilog.now w.clocks w.image.now w.out.now w.fill w.hold)) ending.WriteFault old =
-    of_input _ w.verilog.now w.image.now d (drive_of w.clocks w.fill w.hold) given.module (size_of given.input.size) given.input.rounds.items (λ x t i. IsSimAnswer x t i ending.WriteFault) same c.in_ok-given.ensures.input
+    of_input _ w.verilog.now w.image.now d (drive_of w.clocks w.fill w.hold) given.module (size_of given.input.size) given.input.rounds.items (λ x t i. IsSimAnswer x t i ending.WriteFault) same c.in_ok-given.ensures.made
     (λ t i is. (c.in_ok-output.output.items, c.in_ok-output.ensures.file t i is)) in
     let output : HasStored (Some (sim_command w.verilog.now w.clocks w.image.now w.out.now w.fill w.hold)) ending.WriteFault old new = λ opened.
-    stored_sim _ w.verilog.now w.image.now d (drive_of w.clocks w.fill w.hold) given.module (size_of given.input.size) given.input.rounds.items _ c.in_ok-output.output.items IsPrefix same c.in_ok-given.ensures.input c.in_ok-output.ensures.only_file
+    stored_sim _ w.verilog.now w.image.now d (drive_of w.clocks w.fill w.hold) given.module (size_of given.input.size) given.input.rounds.items _ c.in_ok-output.output.items IsPrefix same c.in_ok-given.ensures.made c.in_ok-output.ensures.only_file
     (subst (λ bytes. IfSome new.file.bytes (λ written. IsPrefix written bytes)) c.deref.ensures.value (c.in_err-write_file.ensures.prefix opened)) in
     let read : Outside = g.D.Desk.outside c.read_all.new.desk in
     let drawn : Outside = g.D.Desk.outside c.pictures.new.desk in
@@ -156,15 +156,15 @@ returns g c =
     let drawn : Outside = outside c.pictures.new.desk in
     let new : Outside = outside c.write_file.new.desk in
     let verdict : EndsRight (Some (sim_command w.verilog.now w.clocks w.image.now w.out.now w.fill w.hold)) ending.Done old =
-    of_input _ w.verilog.now w.image.now d (drive_of w.clocks w.fill w.hold) given.module (size_of given.input.size) given.input.rounds.items (λ x t i. IsSimAnswer x t i ending.Done) same c.in_ok-given.ensures.input
+    of_input _ w.verilog.now w.image.now d (drive_of w.clocks w.fill w.hold) given.module (size_of given.input.size) given.input.rounds.items (λ x t i. IsSimAnswer x t i ending.Done) same c.in_ok-given.ensures.made
     (λ t i is. (c.in_ok-output.output.items, c.in_ok-output.ensures.file t i is)) in
     let output : HasStored (Some (sim_command w.verilog.now w.clocks w.image.now w.out.now w.fill w.hold)) ending.Done old new = λ opened.
-    stored_sim _ w.verilog.now w.image.now d (drive_of w.clocks w.fill w.hold) given.module (size_of given.input.size) given.input.rounds.items _ c.in_ok-output.output.items (λ written whole. written ≡ whole) same c.in_ok-given.ensures.input c.in_ok-output.ensures.only_file
+    stored_sim _ w.verilog.now w.image.now d (drive_of w.clocks w.fill w.hold) given.module (size_of given.input.size) given.input.rounds.items _ c.in_ok-output.output.items (λ written whole. written ≡ whole) same c.in_ok-given.ensures.made c.in_ok-output.ensures.only_file
     (subst (λ bytes. IfSome new.file.bytes (λ written. written ≡ bytes)) c.deref.ensures.value c.in_ok-write_file.ensures.whole) in
     let before : read.notes ≡ old.notes = ap (λ (o : Outside). o.notes) c.in_ok-given.ensures.only in
     let after : new.notes ≡ drawn.notes = ap (λ (o : Outside). o.notes) c.in_ok-write_file.ensures.only in
     let notes : HasNoted (Some (sim_command w.verilog.now w.clocks w.image.now w.out.now w.fill w.hold)) ending.Done old new =
-    of_input _ w.verilog.now w.image.now d (drive_of w.clocks w.fill w.hold) given.module (size_of given.input.size) given.input.rounds.items (λ x t i. NotesSim x t i old.notes new.notes) same c.in_ok-given.ensures.input
+    of_input _ w.verilog.now w.image.now d (drive_of w.clocks w.fill w.hold) given.module (size_of given.input.size) given.input.rounds.items (λ x t i. NotesSim x t i old.notes new.notes) same c.in_ok-given.ensures.made
     (λ t i is. rw (after, sym before) (c.in_ok-output.ensures.notes t i is)) in
     let same_image : drawn.image ≡ read.image = ap (λ (o : Outside). o.image) c.in_ok-output.ensures.only in
     let last_image : new.image ≡ drawn.image = ap (λ (o : Outside). o.image) c.in_ok-write_file.ensures.only in

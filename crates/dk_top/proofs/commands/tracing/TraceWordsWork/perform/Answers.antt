@@ -61,7 +61,7 @@ returns g c =
     ending_as (λ e. LeavesTrace d given w.vcd.now e mid new) (λ e. PerformsWork (trace_command w.verilog.now w.clocks w.image.now w.vcd.now) e old new) c.traced.result
     (λ e t.
     let verdict : EndsRight (Some (trace_command w.verilog.now w.clocks w.image.now w.vcd.now)) e old =
-    of_input _ w.verilog.now w.image.now d (trace_drive w.clocks) given.module (size_of given.input.size) given.input.rounds.items (λ x t i. IsTraceAnswer x t i e) same c.in_ok-given.ensures.input t.verdict in
+    of_input _ w.verilog.now w.image.now d (trace_drive w.clocks) given.module (size_of given.input.size) given.input.rounds.items (λ x t i. IsTraceAnswer x t i e) same c.in_ok-given.ensures.made t.verdict in
     let asked : AsksOnly (Some (trace_command w.verilog.now w.clocks w.image.now w.vcd.now)) new = record {
       program = subst (λ (i : Input). i.stage ≢ Unasked → IsIfTold i.name (Some w.verilog.now)) (sym (ap (λ (o : Outside). o.program) t.only)) c.in_ok-given.ensures.program_name;
       image = subst (λ (i : Input). i.stage ≢ Unasked → IsIfTold i.name (Some w.image.now)) (sym (ap (λ (o : Outside). o.image) t.only)) c.in_ok-given.ensures.image_name;
@@ -70,7 +70,7 @@ returns g c =
     let created : CreatesLast (Some (trace_command w.verilog.now w.clocks w.image.now w.vcd.now)) e new = t.created w.verilog.now w.image.now w.vcd.now w.clocks in
     let begun : HasCreated (Some (trace_command w.verilog.now w.clocks w.image.now w.vcd.now)) e old new = driven_begun _ w.verilog.now w.image.now w.vcd.now w.clocks e _ t.begun in
     let output : HasStored (Some (trace_command w.verilog.now w.clocks w.image.now w.vcd.now)) e old new = λ opened.
-    stored_trace _ w.verilog.now w.image.now d (trace_drive w.clocks) given.module (size_of given.input.size) given.input.rounds.items _ e same c.in_ok-given.ensures.input (t.output opened) in
+    stored_trace _ w.verilog.now w.image.now d (trace_drive w.clocks) given.module (size_of given.input.size) given.input.rounds.items _ e same c.in_ok-given.ensures.made (t.output opened) in
     let files : FilesStay (Some (trace_command w.verilog.now w.clocks w.image.now w.vcd.now)) old.files new.files = stay_others w.vcd.now _ _ _ (ap (λ (o : Outside). o.files) c.in_ok-given.ensures.only) t.files in
     let files_stay : AllStay old new = λ closed. t.files_stay closed ∙ ap (λ (o : Outside). o.files) c.in_ok-given.ensures.only in
     let too_long : LeavesRestOf (Some (trace_command w.verilog.now w.clocks w.image.now w.vcd.now)) e old new =
