@@ -15,8 +15,6 @@ use Rattle.fault_messages.specs.Explanations.{head, IsMessage, AreMessages, IsEx
 use Rattle.dk_top.specs.declared.commands.explaining.Judged.{Judged}
 use Rattle.dk_top.specs.declared.commands.explaining.Judged.TheVariants.{Accepted, Refused}
 use Rattle.dk_top.specs.declared.commands.explaining.Refusal.{Refusal}
-use Rattle.dk_desk.specs.Outside.{Outside, Input}
-use Rattle.dk_top.specs.Reading.{OfFile, IsUnread, failed, memory, long}
 use Rattle.dk_top.specs.Verdict.{Files, bytes_of, IsJudged, IsProgramAnswer, IsExplainAnswer}
 use Rattle.dk_top.specs.State.{GainsText, ReportsFront}
 use Rattle.dk_top.specs.Explaining.{ExplainsFault}
@@ -101,9 +99,3 @@ long_judged None name (Ok j) over h = tt
 long_judged (Some f) name (Ok Accepted) over h = absurd h
 long_judged (Some f) name (Ok (Refused r)) over h =
     refused_judged name (bytes_of f name) source.TooLong (Refused r) over (h.0, long_explained name (bytes_of f name) r.text.items h.1)
-
--- a text that was not read, and whose fault is told, is too long
-pub long_told : (name : List ℕ) (old : Outside) (slot : Input) (fault : SourceFault) → IsUnread MAX_SOURCE_BYTES (ending.Source source.TooLong) name old slot (ending.Source fault) → OfFile old name (λ text. MAX_SOURCE_BYTES < length text)
-long_told name old slot fault (failed is) = absurd (let f : ⊥ = cc in f)
-long_told name old slot fault (memory is) = absurd (let f : ⊥ = cc in f)
-long_told name old slot fault (long is more rest) = more
