@@ -36,10 +36,6 @@ cases=$((cases + 1))
 "$program" narrow text.dk out.dk >stdout 2>stderr
 is "the images of more bits are '$(sed 1d stdout)'" [ "$(sed 1d stdout)" = 'narrow: wider: f output' ]
 
-# An inline image is not named: `s` has each value of its 8 bits, and so has `f`.
-printf '%s' 'size 4 1 input a:u8 inline let s : u8 = im(x,y) a(x,y) end let f : u8 = im(x,y) s(x,y) end output f' >text.dk
-prints 'narrow: bits 0 from 0' narrow text.dk out.dk
-
 # The examples show the same pictures, with no more bits.
 while read -r name input <&3; do
     cases=$((cases + 1))

@@ -54,7 +54,7 @@ pub record IsCircuitOf (p : Program) (plan : Plan) (enable : Bool) (block : Opti
   pub computed : AreComputed m p plan (form_with block splits) nets reads
   -- at an age of at least 1 no path of gates passes through two images, and each has a bounded number of operators
   pub apart : IsApart m p plan (form_with block splits) nets
-  -- and its clock paths to registers, indices of puts and valids are short, and from age 1 on one number bounds all of them
+  -- and one number bounds all its clock paths
   pub paths : HasClockPaths m p plan (form_with block splits)
   -- the registers have the bits that the arrays, the latencies and the frame tests need, and no other
   pub registers : HasRegisters m p plan (is_long block)

@@ -1,4 +1,4 @@
--- The line of the images that have more bits than the intervals of their values need.
+-- The line of the images that have more bits than their values need.
 use Rattle.std.specs.Prelude.{ℕ, ◌==◌, if◌then◌else◌, List, [], ◌++◌, length, flat_map, codes}
 use Rattle.value_ranges.specs.declared.wider.WiderImage.{WiderImage}
 use Rattle.value_ranges.specs.declared.wider.WiderReason.{WiderReason}

@@ -55,7 +55,7 @@ pub record NarrowsForm (old : Program) (text : List ℕ) : Type 0 where
   pub has : HasForm text program new
   pub narrowing : IsNarrowing old new
 
--- The text is accepted, and its program has a form of its own bodies with an image of fewer bits than in this one. These are its images of more bits than the intervals of this one's values need.
+-- The text is accepted, and its program has a form of its own bodies with an image of fewer bits than in this one. These are its images of more bits than the values of this one need.
 pub record HasWiderImages (old : Program) (text : List ℕ) (wider : List WiderImage) : Type 0 where
   pub program : Typing
   pub new : Program
@@ -64,7 +64,7 @@ pub record HasWiderImages (old : Program) (text : List ℕ) (wider : List WiderI
   pub narrower : IsOneNarrower (P.types_of old) (P.types_of new)
   pub images_are : wider ≡ wider_of old new false
 
--- These are all images of the text, inputs aside, that have more bits than the interval of the source's image of the same number needs, in order, each by its name and with the reason. An image whose interval is 0 only, as that of an inline image's place, is not among them. The intervals of the values are those of the source's own bodies, with inline images substituted and constant parts folded. The reason is `Unchanged` only if the text is the source, and `Kept` only if some image of the text has fewer bits.
+-- These are all images of the text, inputs aside, that have more bits than the values of the source's images need, in order, each by its name and with the reason. The intervals of the values are those of the source's own bodies, with inline images substituted and constant parts folded. The reason is `Unchanged` only if the text is the source, and `Kept` only if some image of the text has fewer bits.
 pub record AreWiderImages (source text : List ℕ) (wider : List WiderImage) : Type 0 where
   pub old : Typing
   pub new : Typing

@@ -81,7 +81,7 @@ pub record IsPackedCircuitOf (p : Program) (plan : Plan) (enable : Bool) (block 
   -- no register and no operator is added
   pub registers : m.regs ≡ unpacked.regs
   pub depth : KeepsDepth m unpacked slots
-  -- clock paths of the module to registers, indices of puts and valids are short; from age 1 on each number that bounds the levels of all images and of the registers bounds all of them
+  -- each number that bounds the levels of all images, and those of registers, bounds the clock paths of the module
   pub paths : HasClockPaths m p plan (form_with block circuit.splits)
   -- its buffer bits are at most the plan's and one word more for each array that is read one clock ahead
   pub bits : (k : ℕ) → IsBufferBits m k → k ≤ bits_of plan + ahead_bits block m.arrays

@@ -41,7 +41,7 @@ pub record AreCutLines (text : List ℕ) (most : ℕ) (lines : List ℕ) : Type 
 abbrev pub narrow_line : (bits before : ℕ) → List ℕ
 narrow_line bits before = codes "narrow: bits " ++ decimal bits ++ codes " from " ++ decimal before ++ codes "\n"
 
--- the lines report the least buffer bits of the text and of the source at age 0, and the images of the text that have more bits than the intervals of their values need
+-- the lines report the least buffer bits of the text and of the source at age 0, and the images of the text that have more bits than their values need
 pub record AreNarrowLines (source text lines : List ℕ) : Type 0 where
   pub bits : ℕ
   pub before : ℕ

@@ -1,4 +1,4 @@
-// The line that names the images that have more bits than the intervals of their values need.
+// The line that names the images that have more bits than their values need.
 
 ghost use Rattle.std.specs.Prelude.{◌≡◌, ◌++◌, OnOk, flat_map};
 ghost use Rattle.dk_compile.specs.NarrowLines.{wider_line, wider_heading, wider_words, wider_word as word_of_reason};
@@ -47,7 +47,7 @@ fn push_heading(out: &mut Vec<u8>) -> Result<(), OutOfMemory>
     Ok(())
 }
 
-/// Adds the line of the images that have more bits than the intervals of their values need, if there are any.
+/// Adds the line of the images that have more bits than their values need, if there are any.
 pub fn push_wider(out: &mut Vec<u8>, wider: &[WiderImage]) -> Result<(), OutOfMemory>
     ensures { OnOk result (out.new.items ≡ out.old.items ++ wider_line wider.now) }
 {

@@ -20,7 +20,7 @@ use same_pictures::have_same_pictures;
 use std::alloc::{AllocError, Global};
 use value_ranges::{WiderImage, wider_images};
 
-/// A text whose images have the bits that their values need, with its images that have more than the intervals of their values need, the least buffer bits of its program at age 0, and those of the source's program.
+/// A text whose images have the bits that their values need, with its images that have more, the least buffer bits of its program at age 0, and those of the source's program.
 #[derive(Drop)]
 pub struct NarrowText {
     pub text: Vec<u8>,
@@ -29,7 +29,7 @@ pub struct NarrowText {
     pub bits_before: u64,
 }
 
-// What is found of a program that narrows another one: its least buffer bits, and its images of more bits than the intervals of their values need.
+// What is found of a program that narrows another one: its least buffer bits, and its images of more bits than their values need.
 #[derive(Drop)]
 struct Narrower {
     bits: u64,
@@ -213,7 +213,7 @@ fn checked(
     Ok(same)
 }
 
-/// A text whose program shows the pictures of the source's program, with no image of more bits, and with its least buffer bits at age 0 and those of the source; or the first fault of the source, as for `compile` at age 0. The bits are no more than those of the source. It is the source as it is if no image needs fewer bits, or if the check does not confirm the new text. All images that have more bits than the intervals of their values need are named, inputs aside, each with the reason.
+/// A text whose program shows the pictures of the source's program, with no image of more bits, and with its least buffer bits at age 0 and those of the source; or the first fault of the source, as for `compile` at age 0. The bits are no more than those of the source. It is the source as it is if no image needs fewer bits, or if the check does not confirm the new text. All images that have more bits than their values need are named, inputs aside, each with the reason.
 pub fn narrow(alloc: Global, source: &[u8]) -> Result<NarrowText, SourceError>
     ensures narrowed { IfOk result (λ n. IsNarrowed source.now n.text.items) }
     ensures wider { IfOk result (λ n. AreWiderImages source.now n.text.items n.wider.items) }

@@ -75,7 +75,7 @@ pub record HasBenchFrames (given : SimInput) : Type 0 where
 abbrev pub OfInput : (hold : Option ℕ) → SimInput → (List ℕ → List ℕ → Type 0) → Type 0
 OfInput hold given P = (text images : List ℕ) → IsSimInput hold text images given.«module» (size_of given.input.size) given.input.rounds.items → P text images
 
--- There are fewer than 2^60 clocks, and the frames are for the dins of the module.
+-- The clocks are counted in 64 bits, and the frames are for the dins of the module.
 pub record CanDrive (drive : Drive) (given : SimInput) : Type 0 where
   pub clocks : drive.clocks < 2 ^ 60
   pub frames : AreBenchFrames (din_widths given.«module».netlist) (size_of given.input.size) given.input.rounds.items

@@ -122,7 +122,6 @@ abbrev pub converted_interval : Conversion → Interval → Ty → Interval
 converted_interval Cast a t = if has_all t a then a else type_range t
 converted_interval Saturate a t = record { least = saturate t a.least; greatest = saturate t a.greatest }
 
--- a conversion; none if the type has no width from 1 to MAX_WIDTH
 abbrev pub conversion_interval : Conversion → Interval → Ty → Option Interval
 conversion_interval how a t = if nat_lt (width_of t) 1 || nat_lt MAX_WIDTH (width_of t) then None else Some (converted_interval how a t)
 
@@ -135,7 +134,6 @@ edged_interval Clamp a = a
 abbrev pub with_one : Option Interval → (Interval → Option Interval) → Option Interval
 with_one a f = option_and_then f a
 
--- the same of two operands
 abbrev pub with_both : Option Interval → Option Interval → (Interval → Interval → Option Interval) → Option Interval
 with_both a b f = with_one a (λ x. with_one b (λ y. f x y))
 

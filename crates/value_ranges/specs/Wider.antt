@@ -1,5 +1,5 @@
--- The images that have more bits than the intervals of their values need.
-use Rattle.std.specs.Prelude.{ℕ, zero, suc, ◌+◌, ◌-◌, pos, nat_eq, nat_lt, int_le, not, ◌&&◌, ◌||◌, Bool, true, false, List, [], ◌∷◌, ◌++◌, length, Option, Some, None, slice_get, if◌then◌else◌}
+-- The images that have more bits than their values need.
+use Rattle.std.specs.Prelude.{ℕ, zero, suc, ◌+◌, ◌-◌, nat_eq, nat_lt, ◌&&◌, ◌||◌, Bool, true, false, List, [], ◌∷◌, ◌++◌, length, Option, Some, None, slice_get, if◌then◌else◌}
 use Rattle.std.specs.List.{list_any}
 use Rattle.dk_base.specs.declared.ty.Ty.{Ty}
 use Rattle.dk_base.specs.declared.ty.Ty.TheVariants.{Unsigned, Signed}
@@ -12,13 +12,9 @@ use Rattle.value_ranges.specs.declared.wider.WiderReason.{WiderReason}
 use Rattle.value_ranges.specs.declared.wider.WiderReason.TheVariants.{Output, Unchanged, Kept}
 use Rattle.value_ranges.specs.Ranges.{has_all, intervals_of}
 
--- whether the interval has no value but 0, as that of an inline image's place, which has the body 0
-abbrev pub has_only_zero : Interval → Bool
-has_only_zero r = int_le (pos 0) r.least && int_le r.greatest (pos 0)
-
--- whether the interval has other values than 0, and a type of one bit less has each of its values
+-- whether a type of one bit less has each value of the interval
 abbrev pub has_spare_bits : Ty → Interval → Bool
-has_spare_bits t r = (nat_lt 1 (width_of t) && not (has_only_zero r)) && (has_all (Unsigned (width_of t - 1)) r || has_all (Signed (width_of t - 1)) r)
+has_spare_bits t r = nat_lt 1 (width_of t) && (has_all (Unsigned (width_of t - 1)) r || has_all (Signed (width_of t - 1)) r)
 
 -- whether image g is an output
 abbrev pub is_output_of : Program → ℕ → Bool
@@ -45,6 +41,6 @@ abbrev pub wider_below : List Interval → Program → (is_same : Bool) → ℕ 
 wider_below ranges new is_same zero = []
 wider_below ranges new is_same (suc k) = wider_below ranges new is_same k ++ wider_at ranges new is_same k
 
--- The images of the new program that have spare bits for the interval of the old program's image of the same number: by their names, in order, each with the reason. Inputs are not among them, nor is an image whose interval is 0 only, as that of an inline image's place.
+-- The images of the new program that have spare bits, where the old program's images have the intervals of its values: by their names, in order, each with the reason. Inputs are not among them.
 abbrev pub wider_of : (old new : Program) → (is_same : Bool) → List WiderImage
 wider_of old new is_same = wider_below (intervals_of old) new is_same (length new.images)

@@ -1,10 +1,10 @@
-// The images that have more bits than the intervals of their values need.
+// The images that have more bits than their values need.
 
 ghost use Rattle.std.specs.Prelude.{◌≡◌, ◌<◌, ◌++◌, IfOk, OnOk, Some, length, slice_get};
 ghost use Rattle.dk_base.specs.Types.{IsType};
 ghost use Rattle.pointwise_ir.specs.declared.program.Definition.{Definition};
 ghost use Rattle.value_ranges.specs.Ranges.{intervals_of};
-ghost use Rattle.value_ranges.specs.Wider.{has_only_zero as only_zero, has_spare_bits as spares, is_output_of, reason_of as reason_is, entry_of, wider_at, wider_below, wider_of};
+ghost use Rattle.value_ranges.specs.Wider.{has_spare_bits as spares, is_output_of, reason_of as reason_is, entry_of, wider_at, wider_below, wider_of};
 
 use crate::expression::range_at;
 use crate::images::image_ranges;
@@ -13,7 +13,7 @@ use dk_base::{OutOfMemory, Text, Ty};
 use pointwise_ir::Program;
 use std::alloc::Global;
 
-/// Why an image has more bits than the interval of its values needs.
+/// Why an image has more bits than its values need.
 #[derive(Debug, Clone, Copy, PartialEq, Eq)]
 pub enum WiderReason {
     /// It is an output, whose type stays.
@@ -31,20 +31,13 @@ pub struct WiderImage {
     pub reason: WiderReason,
 }
 
-// Whether an interval has no value but 0, as that of an inline image's place.
-fn has_only_zero(range: Interval) -> bool
-    ensures { result ≡ only_zero range }
-{
-    0 <= range.least && range.greatest <= 0
-}
-
-// Whether an interval has other values than 0, and a type of one bit less has each of its values.
+// Whether a type of one bit less has each value of the interval.
 fn has_spare_bits(ty: Ty, range: Interval) -> bool
     requires { IsType ty }
     ensures { result ≡ spares ty range }
 {
     let width = ty.width();
-    if width < 2 || has_only_zero(range) {
+    if width < 2 {
         return false;
     }
     let unsigned = range.is_within(Ty::Unsigned(width - 1));
@@ -122,7 +115,7 @@ fn note_wider(
     Ok(())
 }
 
-/// The images of `new` that are no inputs and have more bits than the interval of the image of this number in `old` needs, in order, each with the reason; an image whose interval is 0 only, as that of an inline image's place, is not among them. `is_same`: `new` is `old` as it is.
+/// The images of `new` that are no inputs and have more bits than the values of the image of this number in `old` need, in order, each with the reason. `is_same`: `new` is `old` as it is.
 pub fn wider_images(
     alloc: Global,
     old: &Program,
