@@ -21,9 +21,8 @@ use Rattle.stimulus.specs.Showing.{IsShown, IsNoted as AreNotes}
 use Rattle.stimulus.specs.Stops.{IsStop}
 use Rattle.dk_compile.specs.declared.compiling.Compiled.{Compiled}
 use Rattle.dk_top.specs.Program.{ports}
-use Rattle.dk_top.specs.Output.{Fits, output_file}
+use Rattle.dk_top.specs.Output.{Fits, output_file, run_terms, OfPair}
 use Rattle.dk_top.specs.Compiling.{IsCompiledFrom, NotesRun, frame_drive}
-use Rattle.dk_top.specs.Verdict.{run_terms, OfPair}
 use Rattle.dk_top.specs.Reading.{AreRead, IsInputOf}
 use Rattle.dk_top.proofs.VerdictLemmas.{OneProgram}
 use Rattle.dk_top.proofs.ReadLemmas.{ports_same}

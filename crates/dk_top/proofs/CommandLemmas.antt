@@ -1,5 +1,5 @@
 -- What the commands write and note.
-use Rattle.std.proofs.Common.{◌≡◌, ◌≢◌, ◌⊎◌, inl, inr, ℕ, Bool, List, Option, None, Some, IfSome, refl, sym, ◌∙◌, subst}
+use Rattle.std.proofs.Common.{◌≡◌, ◌≢◌, ◌⊎◌, inl, inr, ℕ, Bool, true, false, List, Option, None, Some, IfSome, refl, sym, ◌∙◌, subst}
 use Rattle.std.specs.List.{flat_map}
 use Rattle.dk_desk.specs.declared.Stage.TheVariants.{Unasked}
 use Rattle.dk_desk.specs.Outside.{Input, Outside}
@@ -10,16 +10,16 @@ use Rattle.pointwise_eval.specs.Rounds.{round_of}
 use Rattle.pgm_codec.specs.Images.{file_of}
 use Rattle.pgm_rounds.specs.declared.round.Round.{Round}
 use Rattle.program_images.specs.Outputs.{output_images}
-use Rattle.dk_top.specs.Output.{output_file}
 use Rattle.dk_endings.specs.declared.ending.Ending.{Ending}
 use Rattle.dk_endings.specs.declared.ending.Ending.TheVariants as ending
-use Rattle.dk_top.specs.Verdict.{Terms, Files, bytes_of, eval_terms, OfPair, OnFiles, IsVerdict}
-use Rattle.dk_top.specs.Command.{Command, run, eval, compile, sim, trace, plan, check, make, rewrite, explain, nets}
 use Rattle.dk_desk.specs.declared.Stage.{Stage}
-use Rattle.dk_top.specs.State.{AsksInOrder, CreatesBy, ReadsBy, IsNoted, IsReported}
 use Rattle.dk_top.specs.Reading.{AreRead, IsRead}
+use Rattle.dk_top.specs.Meaning.{Files, bytes_of, Notes, SecondFile, Creation, created_last, created_streaming, created_before_run, Reporting, silent, reports_text, reports_rewriting, reports_fault, Noting, no_clock, noted_at_done}
+use Rattle.dk_top.specs.Output.{Terms, eval_terms, OfPair, output_file}
+use Rattle.dk_top.specs.Command.{Command, meaning_of}
+use Rattle.dk_top.specs.Verdict.{OnNamed, OnFiles, IsVerdict}
+use Rattle.dk_top.specs.State.{AsksOnceReady, AsksInOrder, CreatesWhere, CreatesBy, ReadsWhere, ReadsBy, NotesWhere, IsNoted, ReportsWhere, IsReported, LeavesFiles, LeavesNamed, TakesNoMore}
 use Rattle.dk_top.proofs.OutputLemmas.{evaluated_is}
-use Rattle.dk_top.proofs.WidenLemmas.{rewritten_memory}
 
 -- what is evaluated is the output file
 pub evaluated_pair : (ir : Program) (rounds : List Round) (output : List ℕ) → IsProgram ir → AreRead ir rounds
@@ -43,227 +43,127 @@ read_pair None program image ir rounds Q read made = tt
 read_pair (Some f) program image ir rounds Q read made = made (bytes_of f program) (bytes_of f image) read
 
 -- a line to Fault leaves what was requested
-same_order : (c : Command) (f : Files) (mid new : Outside) → new.image ≡ mid.image → AsksInOrder c f mid → AsksInOrder c f new
-same_order (run p i o a) f mid new same h = λ asked. h (subst (λ (s : Input). s.stage ≢ Unasked) same asked)
-same_order (eval p i o) f mid new same h = λ asked. h (subst (λ (s : Input). s.stage ≢ Unasked) same asked)
-same_order (compile p o e a b) f mid new same h = tt
-same_order (rewrite how p o) f mid new same h = tt
-same_order (trace v c i o) f mid new same h = λ asked. h (subst (λ (s : Input). s.stage ≢ Unasked) same asked)
-same_order (make n) f mid new same h = tt
-same_order (sim v c i o p k) f mid new same h = λ asked. h (subst (λ (s : Input). s.stage ≢ Unasked) same asked)
-same_order (plan p a) f mid new same h = tt
-same_order (nets p e a b) f mid new same h = tt
-same_order (explain p) f mid new same h = tt
-same_order (check p r) f mid new same h = λ asked. h (subst (λ (s : Input). s.stage ≢ Unasked) same asked)
+asked_stays : (second : Option SecondFile) (f : Files) (mid new : Outside) → new.image ≡ mid.image → IfSome second (λ s. AsksOnceReady (s.ready f) mid) → IfSome second (λ s. AsksOnceReady (s.ready f) new)
+asked_stays None f mid new same h = tt
+asked_stays (Some s) f mid new same h = λ asked. h (subst (λ (i : Input). i.stage ≢ Unasked) same asked)
 
 -- what holds of all files holds on every desk
+named_all : (name : Option (List ℕ)) (told : Option Files) (P : Files → Type 0) → ((f : Files) → P f) → OnNamed name told P
+named_all None told P h = h
+named_all (Some n) None P h = tt
+named_all (Some n) (Some f) P h = h f
+
 pub on_all : (c : Command) (told : Option Files) (P : Files → Type 0) → ((f : Files) → P f) → OnFiles c told P
-on_all (make n) told P h = h
-on_all (run p i o a) None P h = tt
-on_all (run p i o a) (Some f) P h = h f
-on_all (eval p i o) None P h = tt
-on_all (eval p i o) (Some f) P h = h f
-on_all (compile p o e a b) None P h = tt
-on_all (compile p o e a b) (Some f) P h = h f
-on_all (rewrite how p o) None P h = tt
-on_all (rewrite how p o) (Some f) P h = h f
-on_all (sim v c i o p h') None P h = tt
-on_all (sim v c i o p h') (Some f) P h = h f
-on_all (trace v c i o) None P h = tt
-on_all (trace v c i o) (Some f) P h = h f
-on_all (plan p a) None P h = tt
-on_all (nets p e a b) None P h = tt
-on_all (explain p) None P h = tt
-on_all (plan p a) (Some f) P h = h f
-on_all (nets p e a b) (Some f) P h = h f
-on_all (explain p) (Some f) P h = h f
-on_all (check p r) None P h = tt
-on_all (check p r) (Some f) P h = h f
+on_all c told P h = named_all (meaning_of c).program told P h
 
 -- what follows from it follows on every desk
+named_each : (name : Option (List ℕ)) (told : Option Files) (P Q : Files → Type 0) → ((f : Files) → P f → Q f) → OnNamed name told P → OnNamed name told Q
+named_each None told P Q g h = λ f. g f (h f)
+named_each (Some n) None P Q g h = tt
+named_each (Some n) (Some f) P Q g h = g f h
+
 pub on_each : (c : Command) (told : Option Files) (P Q : Files → Type 0) → ((f : Files) → P f → Q f) → OnFiles c told P → OnFiles c told Q
-on_each (make n) told P Q g h = λ f. g f (h f)
-on_each (run p i o a) None P Q g h = tt
-on_each (run p i o a) (Some f) P Q g h = g f h
-on_each (eval p i o) None P Q g h = tt
-on_each (eval p i o) (Some f) P Q g h = g f h
-on_each (compile p o e a b) None P Q g h = tt
-on_each (compile p o e a b) (Some f) P Q g h = g f h
-on_each (rewrite how p o) None P Q g h = tt
-on_each (rewrite how p o) (Some f) P Q g h = g f h
-on_each (sim v c i o p h') None P Q g h = tt
-on_each (sim v c i o p h') (Some f) P Q g h = g f h
-on_each (trace v c i o) None P Q g h = tt
-on_each (trace v c i o) (Some f) P Q g h = g f h
-on_each (plan p a) None P Q g h = tt
-on_each (nets p e a b) None P Q g h = tt
-on_each (explain p) None P Q g h = tt
-on_each (plan p a) (Some f) P Q g h = g f h
-on_each (nets p e a b) (Some f) P Q g h = g f h
-on_each (explain p) (Some f) P Q g h = g f h
-on_each (check p r) None P Q g h = tt
-on_each (check p r) (Some f) P Q g h = g f h
+on_each c told P Q g h = named_each (meaning_of c).program told P Q g h
 
 pub order_stays : (command : Option Command) (files : Option Files) (mid new : Outside) → new.image ≡ mid.image → IfSome command (λ c. OnFiles c files (λ f. AsksInOrder c f mid)) → IfSome command (λ c. OnFiles c files (λ f. AsksInOrder c f new))
 order_stays None files mid new same h = tt
-order_stays (Some c) files mid new same h = on_each c files (λ f. AsksInOrder c f mid) (λ f. AsksInOrder c f new) (λ f. same_order c f mid new same) h
+order_stays (Some c) files mid new same h = on_each c files (λ f. AsksInOrder c f mid) (λ f. AsksInOrder c f new) (λ f. asked_stays (meaning_of c).second f mid new same) h
 
 -- what holds if the words are refused, or if out of memory
-memory_verdict : (c : Command) (f : Files) → IsVerdict c f ending.Memory
-memory_verdict (run p i o a) f = tt
-memory_verdict (eval p i o) f = tt
-memory_verdict (compile p o e a b) f = tt
-memory_verdict (rewrite how p o) f = rewritten_memory how (bytes_of f p)
-memory_verdict (trace v c i o) f = tt
-memory_verdict (make n) f = tt
-memory_verdict (sim v c i o p h) f = tt
-memory_verdict (plan p a) f = tt
-memory_verdict (nets p e a b) f = tt
-memory_verdict (explain p) f = tt
-memory_verdict (check p r) f = tt
-
 pub words_verdict : (command : Option Command) (files : Option Files) (e : Ending) → (e ≡ ending.Usage → command ≡ None) → (e ≡ ending.Usage) ⊎ (e ≡ ending.Memory) → IfSome command (λ c. OnFiles c files (λ f. IsVerdict c f e))
 words_verdict None files e usage either = tt
 words_verdict (Some c) files e usage (inl is) = absurd (let n : Some c ≡ None = usage is in let x : ⊥ = cc in x)
-words_verdict (Some c) files e usage (inr is) = on_all c files (λ f. IsVerdict c f e) (λ f. subst (λ x. IsVerdict c f x) (sym is) (memory_verdict c f))
+words_verdict (Some c) files e usage (inr is) = on_all c files (λ f. IsVerdict c f e) (λ f. subst (λ x. IsVerdict c f x) (sym is) tt)
 
-unasked_order : (c : Command) (f : Files) (o : Outside) → o.image.stage ≡ Unasked → AsksInOrder c f o
-unasked_order (run p i out a) f o fresh = λ asked. absurd (asked fresh)
-unasked_order (eval p i out) f o fresh = λ asked. absurd (asked fresh)
-unasked_order (compile p out e a b) f o fresh = tt
-unasked_order (rewrite how p out) f o fresh = tt
-unasked_order (trace v c i out) f o fresh = λ asked. absurd (asked fresh)
-unasked_order (make n) f o fresh = tt
-unasked_order (sim v c i out p h) f o fresh = λ asked. absurd (asked fresh)
-unasked_order (plan p a) f o fresh = tt
-unasked_order (nets p e a b) f o fresh = tt
-unasked_order (explain p) f o fresh = tt
-unasked_order (check p r) f o fresh = λ asked. absurd (asked fresh)
+unasked_order : (second : Option SecondFile) (f : Files) (o : Outside) → o.image.stage ≡ Unasked → IfSome second (λ s. AsksOnceReady (s.ready f) o)
+unasked_order None f o fresh = tt
+unasked_order (Some s) f o fresh = λ asked. absurd (asked fresh)
 
 pub words_order : (command : Option Command) (files : Option Files) (o : Outside) → o.image.stage ≡ Unasked → IfSome command (λ c. OnFiles c files (λ f. AsksInOrder c f o))
 words_order None files o fresh = tt
-words_order (Some c) files o fresh = on_all c files (λ f. AsksInOrder c f o) (λ f. unasked_order c f o fresh)
+words_order (Some c) files o fresh = on_all c files (λ f. AsksInOrder c f o) (λ f. unasked_order (meaning_of c).second f o fresh)
 
-usage_report : (c : Command) (f : Files) (stored r : Option (List ℕ)) → IsReported ending.Usage c f stored r r
-usage_report (run p i o a) f stored r = refl
-usage_report (eval p i o) f stored r = refl
-usage_report (compile p o e a b) f stored r = refl
-usage_report (rewrite how p o) f stored r = refl
-usage_report (trace v c i o) f stored r = refl
-usage_report (make n) f stored r = refl
-usage_report (sim v c i o p h) f stored r = refl
-usage_report (plan p a) f stored r = refl
-usage_report (nets p e a b) f stored r = refl
-usage_report (explain p) f stored r = refl
-usage_report (check p t) f stored r = refl
+-- what holds of both endings holds of an ending that is one of them
+either_of : (P : Ending → Type 0) → P ending.Usage → P ending.Memory → (e : Ending) → (e ≡ ending.Usage) ⊎ (e ≡ ending.Memory) → P e
+either_of P usage memory e (inl is) = subst P (sym is) usage
+either_of P usage memory e (inr is) = subst P (sym is) memory
 
-memory_report : (c : Command) (f : Files) (stored r : Option (List ℕ)) → IsReported ending.Memory c f stored r r
-memory_report (run p i o a) f stored r = refl
-memory_report (eval p i o) f stored r = refl
-memory_report (compile p o e a b) f stored r = refl
-memory_report (rewrite how p o) f stored r = refl
-memory_report (trace v c i o) f stored r = refl
-memory_report (make n) f stored r = refl
-memory_report (sim v c i o p h) f stored r = refl
-memory_report (plan p a) f stored r = refl
-memory_report (nets p e a b) f stored r = refl
-memory_report (explain p) f stored r = refl
-memory_report (check p t) f stored r = refl
+-- of a command that does nothing this holds, if it holds of what the command means
+words_of : (command : Option Command) (files : Option Files) (P : Command → Files → Ending → Type 0) → ((c : Command) (f : Files) → P c f ending.Usage) → ((c : Command) (f : Files) → P c f ending.Memory)
+    → (e : Ending) → (e ≡ ending.Usage) ⊎ (e ≡ ending.Memory) → IfSome command (λ c. OnFiles c files (λ f. P c f e))
+words_of None files P usage memory e either = tt
+words_of (Some c) files P usage memory e either = on_all c files (λ f. P c f e) (λ f. either_of (P c f) (usage c f) (memory c f) e either)
 
-pub words_report : (command : Option Command) (files : Option Files) (e : Ending) (stored r : Option (List ℕ)) → (e ≡ ending.Usage) ⊎ (e ≡ ending.Memory) → IfSome command (λ c. OnFiles c files (λ f. IsReported e c f stored r r))
-words_report None files e stored r either = tt
-words_report (Some c) files e stored r (inl is) = on_all c files (λ f. IsReported e c f stored r r) (λ f. subst (λ x. IsReported x c f stored r r) (sym is) (usage_report c f stored r))
-words_report (Some c) files e stored r (inr is) = on_all c files (λ f. IsReported e c f stored r r) (λ f. subst (λ x. IsReported x c f stored r r) (sym is) (memory_report c f stored r))
+usage_report : (r : Reporting) (f : Files) (stored t : Option (List ℕ)) → ReportsWhere r ending.Usage f stored t t
+usage_report silent f stored t = refl
+usage_report (reports_text is) f stored t = refl
+usage_report (reports_rewriting how p) f stored t = refl
+usage_report (reports_fault p) f stored t = refl
 
-usage_notes : (c : Command) (f : Files) (n : Option (List (Bool × ℕ))) → IsNoted c ending.Usage f n n
-usage_notes (run p i o a) f n = tt
-usage_notes (eval p i o) f n = refl
-usage_notes (compile p o e a b) f n = refl
-usage_notes (rewrite how p o) f n = refl
-usage_notes (trace v c i o) f n = refl
-usage_notes (make k) f n = tt
-usage_notes (sim v c i o p h) f n = tt
-usage_notes (plan p a) f n = refl
-usage_notes (nets p e a b) f n = refl
-usage_notes (explain p) f n = refl
-usage_notes (check p t) f n = refl
+memory_report : (r : Reporting) (f : Files) (stored t : Option (List ℕ)) → ReportsWhere r ending.Memory f stored t t
+memory_report silent f stored t = refl
+memory_report (reports_text is) f stored t = refl
+memory_report (reports_rewriting how p) f stored t = refl
+memory_report (reports_fault p) f stored t = refl
 
-memory_notes : (c : Command) (f : Files) (n : Option (List (Bool × ℕ))) → IsNoted c ending.Memory f n n
-memory_notes (run p i o a) f n = tt
-memory_notes (eval p i o) f n = refl
-memory_notes (compile p o e a b) f n = refl
-memory_notes (rewrite how p o) f n = refl
-memory_notes (trace v c i o) f n = refl
-memory_notes (make k) f n = tt
-memory_notes (sim v c i o p h) f n = tt
-memory_notes (plan p a) f n = refl
-memory_notes (nets p e a b) f n = refl
-memory_notes (explain p) f n = refl
-memory_notes (check p t) f n = refl
+pub words_report : (command : Option Command) (files : Option Files) (e : Ending) (stored t : Option (List ℕ)) → (e ≡ ending.Usage) ⊎ (e ≡ ending.Memory) → IfSome command (λ c. OnFiles c files (λ f. IsReported e c f stored t t))
+words_report command files e stored t either = words_of command files (λ c f x. IsReported x c f stored t t) (λ c f. usage_report (meaning_of c).reports f stored t) (λ c f. memory_report (meaning_of c).reports f stored t) e either
 
-pub words_notes : (command : Option Command) (files : Option Files) (e : Ending) (n : Option (List (Bool × ℕ))) → (e ≡ ending.Usage) ⊎ (e ≡ ending.Memory) → IfSome command (λ c. OnFiles c files (λ f. IsNoted c e f n n))
-words_notes None files e n either = tt
-words_notes (Some c) files e n (inl is) = on_all c files (λ f. IsNoted c e f n n) (λ f. subst (λ x. IsNoted c x f n n) (sym is) (usage_notes c f n))
-words_notes (Some c) files e n (inr is) = on_all c files (λ f. IsNoted c e f n n) (λ f. subst (λ x. IsNoted c x f n n) (sym is) (memory_notes c f n))
+usage_notes : (noting : Noting) (f : Files) (n : Notes) → NotesWhere noting ending.Usage f n n
+usage_notes no_clock f n = refl
+usage_notes (noted_at_done noted) f n = tt
 
-usage_begun : (c : Command) (f : Files) (s : Stage) → CreatesBy c ending.Usage f s
-usage_begun (run p i o a) f s = tt
-usage_begun (eval p i o) f s = tt
-usage_begun (compile p o e a b) f s = tt
-usage_begun (rewrite how p o) f s = tt
-usage_begun (trace v c i o) f s = tt
-usage_begun (make k) f s = tt
-usage_begun (sim v c i o p h) f s = tt
-usage_begun (plan p a) f s = tt
-usage_begun (nets p e a b) f s = tt
-usage_begun (explain p) f s = tt
-usage_begun (check p t) f s = tt
+memory_notes : (noting : Noting) (f : Files) (n : Notes) → NotesWhere noting ending.Memory f n n
+memory_notes no_clock f n = refl
+memory_notes (noted_at_done noted) f n = tt
 
-memory_begun : (c : Command) (f : Files) (s : Stage) → CreatesBy c ending.Memory f s
-memory_begun (run p i o a) f s = tt
-memory_begun (eval p i o) f s = tt
-memory_begun (compile p o e a b) f s = tt
-memory_begun (rewrite how p o) f s = tt
-memory_begun (trace v c i o) f s = tt
-memory_begun (make k) f s = tt
-memory_begun (sim v c i o p h) f s = tt
-memory_begun (plan p a) f s = tt
-memory_begun (nets p e a b) f s = tt
-memory_begun (explain p) f s = tt
-memory_begun (check p t) f s = tt
+pub words_notes : (command : Option Command) (files : Option Files) (e : Ending) (n : Notes) → (e ≡ ending.Usage) ⊎ (e ≡ ending.Memory) → IfSome command (λ c. OnFiles c files (λ f. IsNoted c e f n n))
+words_notes command files e n either = words_of command files (λ c f x. IsNoted c x f n n) (λ c f. usage_notes (meaning_of c).notes f n) (λ c f. memory_notes (meaning_of c).notes f n) e either
+
+usage_begun : (creation : Creation) (f : Files) (s : Stage) → CreatesWhere creation ending.Usage f s
+usage_begun created_last f s = tt
+usage_begun (created_streaming age p i) f s = tt
+usage_begun created_before_run f s = tt
+
+memory_begun : (creation : Creation) (f : Files) (s : Stage) → CreatesWhere creation ending.Memory f s
+memory_begun created_last f s = tt
+memory_begun (created_streaming age p i) f s = tt
+memory_begun created_before_run f s = tt
 
 pub words_begun : (command : Option Command) (files : Option Files) (e : Ending) (s : Stage) → (e ≡ ending.Usage) ⊎ (e ≡ ending.Memory) → IfSome command (λ c. OnFiles c files (λ f. CreatesBy c e f s))
-words_begun None files e s either = tt
-words_begun (Some c) files e s (inl is) = on_all c files (λ f. CreatesBy c e f s) (λ f. subst (λ x. CreatesBy c x f s) (sym is) (usage_begun c f s))
-words_begun (Some c) files e s (inr is) = on_all c files (λ f. CreatesBy c e f s) (λ f. subst (λ x. CreatesBy c x f s) (sym is) (memory_begun c f s))
+words_begun command files e s either = words_of command files (λ c f x. CreatesBy c x f s) (λ c f. usage_begun (meaning_of c).creation f s) (λ c f. memory_begun (meaning_of c).creation f s) e either
 
-usage_reads : (c : Command) (f : Files) (i : Input) (s : Stage) → ReadsBy c ending.Usage f i s
-usage_reads (run p i o a) f slot s = tt
-usage_reads (eval p i o) f slot s = tt
-usage_reads (compile p o e a b) f slot s = tt
-usage_reads (rewrite how p o) f slot s = tt
-usage_reads (trace v c i o) f slot s = tt
-usage_reads (make k) f slot s = tt
-usage_reads (sim v c i o p h) f slot s = tt
-usage_reads (plan p a) f slot s = tt
-usage_reads (nets p e a b) f slot s = tt
-usage_reads (explain p) f slot s = tt
-usage_reads (check p t) f slot s = tt
+usage_reads : (creation : Creation) (f : Files) (i : Input) (s : Stage) → ReadsWhere creation ending.Usage f i s
+usage_reads created_last f i s = tt
+usage_reads (created_streaming age p n) f i s = tt
+usage_reads created_before_run f i s = tt
 
-memory_reads : (c : Command) (f : Files) (i : Input) (s : Stage) → ReadsBy c ending.Memory f i s
-memory_reads (run p i o a) f slot s = tt
-memory_reads (eval p i o) f slot s = tt
-memory_reads (compile p o e a b) f slot s = tt
-memory_reads (rewrite how p o) f slot s = tt
-memory_reads (trace v c i o) f slot s = tt
-memory_reads (make k) f slot s = tt
-memory_reads (sim v c i o p h) f slot s = tt
-memory_reads (plan p a) f slot s = tt
-memory_reads (nets p e a b) f slot s = tt
-memory_reads (explain p) f slot s = tt
-memory_reads (check p t) f slot s = tt
+memory_reads : (creation : Creation) (f : Files) (i : Input) (s : Stage) → ReadsWhere creation ending.Memory f i s
+memory_reads created_last f i s = tt
+memory_reads (created_streaming age p n) f i s = tt
+memory_reads created_before_run f i s = tt
 
 pub words_reads : (command : Option Command) (files : Option Files) (e : Ending) (i : Input) (s : Stage) → (e ≡ ending.Usage) ⊎ (e ≡ ending.Memory) → IfSome command (λ c. OnFiles c files (λ f. ReadsBy c e f i s))
-words_reads None files e i s either = tt
-words_reads (Some c) files e i s (inl is) = on_all c files (λ f. ReadsBy c e f i s) (λ f. subst (λ x. ReadsBy c x f i s) (sym is) (usage_reads c f i s))
-words_reads (Some c) files e i s (inr is) = on_all c files (λ f. ReadsBy c e f i s) (λ f. subst (λ x. ReadsBy c x f i s) (sym is) (memory_reads c f i s))
+words_reads command files e i s either = words_of command files (λ c f x. ReadsBy c x f i s) (λ c f. usage_reads (meaning_of c).creation f i s) (λ c f. memory_reads (meaning_of c).creation f i s) e either
+
+-- a file that is not too long
+usage_both : (limited : Bool) (f : Files) (t n : List ℕ) (i j : Input) → LeavesFiles limited ending.Usage f t n i j
+usage_both true f t n i j = (tt, tt)
+usage_both false f t n i j = tt
+
+memory_both : (limited : Bool) (f : Files) (t n : List ℕ) (i j : Input) → LeavesFiles limited ending.Memory f t n i j
+memory_both true f t n i j = (tt, tt)
+memory_both false f t n i j = tt
+
+usage_left : (name : Option (List ℕ)) (second : Option SecondFile) (f : Files) (i j : Input) → LeavesNamed name second ending.Usage f i j
+usage_left None second f i j = tt
+usage_left (Some n) None f i j = tt
+usage_left (Some n) (Some s) f i j = usage_both s.limited f n s.name i j
+
+memory_left : (name : Option (List ℕ)) (second : Option SecondFile) (f : Files) (i j : Input) → LeavesNamed name second ending.Memory f i j
+memory_left None second f i j = tt
+memory_left (Some n) None f i j = tt
+memory_left (Some n) (Some s) f i j = memory_both s.limited f n s.name i j
+
+pub words_left : (command : Option Command) (files : Option Files) (e : Ending) (i j : Input) → (e ≡ ending.Usage) ⊎ (e ≡ ending.Memory) → IfSome command (λ c. OnFiles c files (λ f. TakesNoMore c e f i j))
+words_left command files e i j either = words_of command files (λ c f x. TakesNoMore c x f i j) (λ c f. usage_left (meaning_of c).program (meaning_of c).second f i j) (λ c f. memory_left (meaning_of c).program (meaning_of c).second f i j) e either

@@ -11,8 +11,8 @@ use Rattle.dk_compile.specs.Compiled.{IsPlanned}
 use Rattle.dk_endings.specs.declared.ending.Ending.{Ending}
 use Rattle.dk_compile.specs.Limits.{IsAcceptedAt}
 use Rattle.dk_top.specs.Compiling.{IsCompiledFrom, IsCompiledText}
-use Rattle.dk_top.specs.Verdict.{Files, bytes_of}
-use Rattle.dk_top.specs.State.{HoldsOutput, HoldsText}
+use Rattle.dk_top.specs.Meaning.{Files, bytes_of}
+use Rattle.dk_top.specs.Texts.{HoldsOutput, HoldsText}
 
 -- the law of planned texts
 abbrev pub PlannedAccepted : Type 0

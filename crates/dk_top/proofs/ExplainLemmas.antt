@@ -15,10 +15,12 @@ use Rattle.fault_messages.specs.Explanations.{head, IsMessage, AreMessages, IsEx
 use Rattle.dk_top.specs.declared.commands.explaining.Judged.{Judged}
 use Rattle.dk_top.specs.declared.commands.explaining.Judged.TheVariants.{Accepted, Refused}
 use Rattle.dk_top.specs.declared.commands.explaining.Refusal.{Refusal}
-use Rattle.dk_top.specs.Verdict.{Files, bytes_of, IsJudged, IsProgramAnswer, IsExplainAnswer}
-use Rattle.dk_top.specs.State.{GainsText, ReportsFront}
-use Rattle.dk_top.specs.Explaining.{ExplainsFault}
+use Rattle.dk_top.specs.Verdict.{IsJudged}
+use Rattle.dk_top.specs.Explaining.{ExplainsFault, IsExplainAnswer}
 use Rattle.dk_top.specs.Refusals.{IsJudgedAs, IsRefusedFor}
+use Rattle.dk_top.specs.Meaning.{Files, bytes_of}
+use Rattle.dk_top.specs.Program.{IsProgramAnswer}
+use Rattle.dk_top.specs.Texts.{GainsText, ReportsFront}
 use Rattle.dk_top.proofs.VerdictLemmas.{ApartAt, OneFaultAt}
 use Rattle.dk_top.proofs.PlanLemmas.{program_answer}
 use Rattle.dk_top.proofs.ReportLemmas.{front, whole}

@@ -7,8 +7,8 @@ use Rattle.dk_desk.specs.declared.Stage.TheVariants.{Unasked, Open}
 use Rattle.dk_desk.specs.declared.OutSlot.TheVariants.{File}
 use Rattle.dk_desk.specs.Outside.{Outside, Created}
 use Rattle.dk_desk.specs.Calls.{IsIfTold, AddsToFile, WritesFront, grown, put_file, with_created, with_file, grow_created, grow_file}
-use Rattle.dk_top.specs.Verdict.{Files}
 use Rattle.dk_top.specs.State.{HoldsFile, HasOwnFile}
+use Rattle.dk_top.specs.Meaning.{Files}
 
 -- the file of this name has these bytes, as far as all three are specified
 abbrev Holds : Option Files → (name bytes : Option (List ℕ)) → Type 0

@@ -14,13 +14,15 @@ use Rattle.dk_endings.specs.declared.ending.ReportFault.TheVariants as report
 use Rattle.dk_endings.specs.declared.verilog.VerilogFault.{VerilogFault}
 use Rattle.dk_endings.specs.declared.verilog.VerilogFault.TheVariants as verilog
 use Rattle.dk_top.specs.Compiling.{IsCompiledFrom}
-use Rattle.dk_top.specs.Verdict.{Files, bytes_of, OnFiles, IsRunAnswer}
+use Rattle.dk_top.specs.Verdict.{OnFiles}
 use Rattle.dk_words.specs.declared.command.Rewriting.{Rewriting}
 use Rattle.dk_words.specs.declared.command.Rewriting.TheVariants.{Cut, Narrow, Widen}
 use Rattle.dk_top.specs.Command.{Command, run, eval, compile, sim, trace, plan, check, make, rewrite, explain, nets}
 use Rattle.dk_top.specs.State.{LeavesText, LeavesImages, LeavesBoth, TakesNoMore}
 use Rattle.dk_top.specs.Reading.{Stops, IsJudgement, IsSourceEnding, TellsNoText, TellsNoImages, IsRewriteEnding}
 use Rattle.dk_top.specs.Simulating.{IsModuleEnding}
+use Rattle.dk_top.specs.Meaning.{Files, bytes_of}
+use Rattle.dk_top.specs.Streaming.{IsRunAnswer}
 use Rattle.dk_top.proofs.CommandLemmas.{on_all}
 use Rattle.dk_top.proofs.CompileLemmas.{PlannedAccepted, compiled_accepted}
 
@@ -177,35 +179,3 @@ pub ran_left : ((text : List ℕ) (age : ℕ) (p : Typing) (f : SourceFault) →
     → IfSome told (λ f. IsRunAnswer age (bytes_of f program) (bytes_of f images) e) → IfSome told (λ f. LeavesText e (bytes_of f program) slot)
 ran_left apart law None program images age c slot e from h = tt
 ran_left apart law (Some f) program images age c slot e from h = ran_text apart law (bytes_of f program) (bytes_of f images) age c from e h (bytes_of f program) slot
-
--- words that are refused, or out of memory
-usage_left : (c : Command) (f : Files) (i j : Input) → TakesNoMore c ending.Usage f i j
-usage_left (run p im o a) f i j = tt
-usage_left (eval p im o) f i j = (tt, tt)
-usage_left (compile p o e a b) f i j = tt
-usage_left (rewrite how p o) f i j = tt
-usage_left (trace v c im o) f i j = (tt, tt)
-usage_left (make k) f i j = tt
-usage_left (sim v c im o p h) f i j = (tt, tt)
-usage_left (plan p a) f i j = tt
-usage_left (nets p e a b) f i j = tt
-usage_left (explain p) f i j = tt
-usage_left (check p t) f i j = (tt, tt)
-
-memory_left : (c : Command) (f : Files) (i j : Input) → TakesNoMore c ending.Memory f i j
-memory_left (run p im o a) f i j = tt
-memory_left (eval p im o) f i j = (tt, tt)
-memory_left (compile p o e a b) f i j = tt
-memory_left (rewrite how p o) f i j = tt
-memory_left (trace v c im o) f i j = (tt, tt)
-memory_left (make k) f i j = tt
-memory_left (sim v c im o p h) f i j = (tt, tt)
-memory_left (plan p a) f i j = tt
-memory_left (nets p e a b) f i j = tt
-memory_left (explain p) f i j = tt
-memory_left (check p t) f i j = (tt, tt)
-
-pub words_left : (command : Option Command) (files : Option Files) (e : Ending) (i j : Input) → (e ≡ ending.Usage) ⊎ (e ≡ ending.Memory) → IfSome command (λ c. OnFiles c files (λ f. TakesNoMore c e f i j))
-words_left None files e i j either = tt
-words_left (Some c) files e i j (inl is) = on_all c files (λ f. TakesNoMore c e f i j) (λ f. subst (λ x. TakesNoMore c x f i j) (sym is) (usage_left c f i j))
-words_left (Some c) files e i j (inr is) = on_all c files (λ f. TakesNoMore c e f i j) (λ f. subst (λ x. TakesNoMore c x f i j) (sym is) (memory_left c f i j))

@@ -27,10 +27,9 @@ use Rattle.stimulus.specs.Inputs.{samples_of}
 use Rattle.dk_compile.specs.declared.compiling.Compiled.{Compiled}
 use Rattle.dk_compile.proofs.Ports.{some_ports}
 use Rattle.dk_top.specs.Program.{ports}
-use Rattle.dk_top.specs.Output.{outputs_of, output_file}
+use Rattle.dk_top.specs.Output.{outputs_of, output_file, run_terms, OfPair}
 use Rattle.dk_top.specs.Compiling.{IsCompiledFrom, NotesRun}
 use Rattle.dk_top.specs.Making.{IsMade, NotesMade}
-use Rattle.dk_top.specs.Verdict.{run_terms, OfPair}
 use Rattle.dk_top.specs.Reading.{IsInputOf}
 use Rattle.dk_top.proofs.CompileLemmas.{PlannedAccepted, compiled_accepted}
 use Rattle.dk_top.proofs.TextLemmas.{has_input}

@@ -2,19 +2,20 @@
 use Rattle.std.proofs.Common.{◌≡◌, inl, inr, ℕ, List, Option, None, Some, IfSome, refl, sym, subst}
 use Rattle.dk_endings.specs.declared.ending.Ending.{Ending}
 use Rattle.dk_endings.specs.declared.ending.Ending.TheVariants as ending
-use Rattle.source_fault.specs.declared.widen.WidenFault.{WidenFault}
 use Rattle.source_fault.specs.declared.widen.WidenFault.TheVariants as fault
-use Rattle.dk_words.specs.declared.command.Rewriting.TheVariants.{Cut, Narrow, Widen}
 use Rattle.dk_top.specs.Command.{Command, run, eval, compile, sim, trace, plan, check, make, rewrite, explain, nets}
 use Rattle.made_program.specs.Programs.{program_of}
 use Rattle.dk_top.specs.Simulation.{drive_of}
 use Rattle.dk_top.proofs.CommandLemmas.{on_each}
 use Rattle.dk_top.specs.Tracing.{trace_drive}
-use Rattle.dk_top.specs.Verdict.{Files, bytes_of, eval_terms, run_terms, OnFiles, IsAnswer, IsRunAnswer, IsJudged, IsVerdict, AreAlike, HasOneVerdict, IsGood, IsOrMemory, EndsWell}
+use Rattle.dk_top.specs.Verdict.{OnFiles, IsJudged, IsVerdict, AreAlike, HasOneVerdict, IsGood, IsOrMemory, EndsWell}
+use Rattle.dk_top.specs.Meaning.{Files, bytes_of}
+use Rattle.dk_top.specs.Output.{eval_terms, run_terms, IsAnswer}
+use Rattle.dk_top.specs.Streaming.{IsRunAnswer}
 use Rattle.dk_top.proofs.VerdictLemmas.{OneProgram, TextApart, OneTextFault, ApartAt, OneFaultAt, FileApart, OneFileFault, one_answer}
 use Rattle.dk_top.proofs.SimLemmas.{OneModule, OneAgreed, ModuleApart, OneTokens, OneTree, OneRounds, RoundsApart, OneBenchFault, OneStop, ShownApart, RunApart, alike_of, sim_answer, trace_answer}
 use Rattle.dk_top.proofs.PlanLemmas.{FrontAccepted, WrongApart, OneLine, program_answer, check_answer}
-use Rattle.dk_top.proofs.WidenLemmas.{rewrite_answer, rewritten_done, rewritten_usage}
+use Rattle.dk_top.proofs.WidenLemmas.{rewrite_answer}
 use Rattle.dk_top.proofs.ExplainLemmas.{explain_answer}
 
 -- the laws of the crates below
@@ -74,95 +75,31 @@ one_verdict l (check program report) files a b j k x y =
 one_verdict l (make number) files a b j k x y = alike_of a b (program_answer l.apart_at l.fault_at 0 (program_of number) a b j k x y)
 one_verdict l (rewrite how program out) files a b j k x y = alike_of a b (rewrite_answer l.one_program l.apart_at l.fault_at how (bytes_of files program) a b j k x y)
 
--- what is good can be done
-good_verdict : (command : Command) (files : Files) → IsGood command files → IsVerdict command files ending.Done
-good_verdict (run program image out age) files good = good
-good_verdict (eval program image out) files good = good
-good_verdict (compile program out enable age block) files good = good
-good_verdict (sim verilog clocks image out fill hold) files good = good
-good_verdict (trace verilog clocks image vcd) files good = good
-good_verdict (plan program age) files good = good
-good_verdict (nets program enable age block) files good = good
-good_verdict (explain program) files good = good
-good_verdict (check program report) files good = good
-good_verdict (make number) files good = good
-good_verdict (rewrite how program out) files good = rewritten_done how (bytes_of files program) good
-
--- no command ends as if its words were refused
-no_usage : (command : Command) (files : Files) → IsVerdict command files ending.Usage → ⊥
-no_usage (run program image out age) files is = is
-no_usage (eval program image out) files is = is
-no_usage (compile program out enable age block) files is = is
-no_usage (sim verilog clocks image out fill hold) files is = is
-no_usage (trace verilog clocks image vcd) files is = is
-no_usage (plan program age) files is = is
-no_usage (nets program enable age block) files is = is
-no_usage (explain program) files is = is
-no_usage (check program report) files is = is
-no_usage (make number) files is = is
-no_usage (rewrite how program out) files is = rewritten_usage how (bytes_of files program) is
-
--- a command that is done, or for which there is no memory, ends well
-well : (command : Command) (e : Ending) → IsOrMemory e ending.Done → EndsWell command e
-well (run program image out age) e h = h
-well (eval program image out) e h = h
-well (compile program out enable age block) e h = h
-well (sim verilog clocks image out fill hold) e h = h
-well (trace verilog clocks image vcd) e h = h
-well (plan program age) e h = h
-well (nets program enable age block) e h = h
-well (explain program) e h = h
-well (check program report) e h = h
-well (make number) e h = h
-well (rewrite (Cut levels) program out) e h = h
-well (rewrite Narrow program out) e h = h
-well (rewrite (Widen phases) program out) e h = inl h
-
--- Done is no refusal
-not_done : (f : WidenFault) → ending.Done ≡ ending.Unable f → ⊥
-not_done f is = cc
-
--- only `widen` refuses a program its phases, and only the check one that is good
-refused_well : HasOneVerdict → (command : Command) (files : Files) → IsGood command files → (f : WidenFault) → IsVerdict command files (ending.Unable f) → EndsWell command (ending.Unable f)
-refused_well one (run program image out age) files good f is = absurd is
-refused_well one (eval program image out) files good f is = absurd is
-refused_well one (compile program out enable age block) files good f is = absurd is
-refused_well one (sim verilog clocks image out fill hold) files good f is = absurd is
-refused_well one (trace verilog clocks image vcd) files good f is = absurd is
-refused_well one (plan program age) files good f is = absurd is
-refused_well one (nets program enable age block) files good f is = absurd is
-refused_well one (explain program) files good f is = absurd is
-refused_well one (check program report) files good f is = absurd is
-refused_well one (make number) files good f is = absurd is
-refused_well one (rewrite (Cut levels) program out) files good f is = absurd is
-refused_well one (rewrite Narrow program out) files good f is = absurd is
-refused_well one (rewrite (Widen phases) program out) files good fault.Limits is = inr refl
-refused_well one (rewrite (Widen phases) program out) files good (fault.Width w) is = absurd (not_done (fault.Width w) (one (rewrite (Widen phases) program out) files ending.Done (ending.Unable (fault.Width w)) tt tt good is))
-refused_well one (rewrite (Widen phases) program out) files good (fault.Inputs n) is = absurd (not_done (fault.Inputs n) (one (rewrite (Widen phases) program out) files ending.Done (ending.Unable (fault.Inputs n)) tt tt good is))
-refused_well one (rewrite (Widen phases) program out) files good (fault.Outputs n) is = absurd (not_done (fault.Outputs n) (one (rewrite (Widen phases) program out) files ending.Done (ending.Unable (fault.Outputs n)) tt tt good is))
-
 -- what is good is done where nothing outside fails and there is memory
 module _ (one : HasOneVerdict) (command : Command) (files : Files) (good : IsGood command files) where
   done_or : (e : Ending) → IsJudged e → IsVerdict command files e → AreAlike ending.Done e
-  done_or e judged is = one command files ending.Done e tt judged (good_verdict command files good) is
+  done_or e judged is = one command files ending.Done e tt judged (good) is
 
-  good_ends : (e : Ending) → IsVerdict command files e → (e ≡ ending.ReadFault → ⊥) → (e ≡ ending.WriteFault → ⊥) → EndsWell command e
-  good_ends ending.Done is no_read no_write = well command ending.Done (inl refl)
-  good_ends ending.Memory is no_read no_write = well command ending.Memory (inr refl)
+  good_ends : (e : Ending) → IsVerdict command files e → (e ≡ ending.ReadFault → ⊥) → (e ≡ ending.WriteFault → ⊥) → EndsWell command files e
+  good_ends ending.Done is no_read no_write = inl (inl refl)
+  good_ends ending.Memory is no_read no_write = inl (inr refl)
   good_ends ending.ReadFault is no_read no_write = absurd (no_read refl)
   good_ends ending.WriteFault is no_read no_write = absurd (no_write refl)
-  good_ends ending.Usage is no_read no_write = absurd (no_usage command files is)
-  good_ends (ending.Source x) is no_read no_write = well command (ending.Source x) (inl (sym (done_or (ending.Source x) tt is)))
-  good_ends (ending.Image x) is no_read no_write = well command (ending.Image x) (inl (sym (done_or (ending.Image x) tt is)))
-  good_ends (ending.Verilog x) is no_read no_write = well command (ending.Verilog x) (inl (sym (done_or (ending.Verilog x) tt is)))
-  good_ends (ending.Stopped x) is no_read no_write = well command (ending.Stopped x) (inl (sym (done_or (ending.Stopped x) tt is)))
-  good_ends (ending.Rejected x) is no_read no_write = well command (ending.Rejected x) (inl (sym (done_or (ending.Rejected x) tt is)))
-  good_ends (ending.Unable x) is no_read no_write = refused_well one command files good x is
+  good_ends ending.Usage is no_read no_write = absurd is
+  good_ends (ending.Source x) is no_read no_write = inl (inl (sym (done_or (ending.Source x) tt is)))
+  good_ends (ending.Image x) is no_read no_write = inl (inl (sym (done_or (ending.Image x) tt is)))
+  good_ends (ending.Verilog x) is no_read no_write = inl (inl (sym (done_or (ending.Verilog x) tt is)))
+  good_ends (ending.Stopped x) is no_read no_write = inl (inl (sym (done_or (ending.Stopped x) tt is)))
+  good_ends (ending.Rejected x) is no_read no_write = inl (inl (sym (done_or (ending.Rejected x) tt is)))
+  good_ends (ending.Unable fault.Limits) is no_read no_write = inr (refl, is)
+  good_ends (ending.Unable (fault.Width w)) is no_read no_write = inl (inl (sym (done_or (ending.Unable (fault.Width w)) tt is)))
+  good_ends (ending.Unable (fault.Inputs n)) is no_read no_write = inl (inl (sym (done_or (ending.Unable (fault.Inputs n)) tt is)))
+  good_ends (ending.Unable (fault.Outputs n)) is no_read no_write = inl (inl (sym (done_or (ending.Unable (fault.Outputs n)) tt is)))
 
 -- the same of what is specified
 pub complete_of : HasOneVerdict → (command : Option Command) (files : Option Files) (e : Ending) (Read Write : Type 0) → IfSome command (λ c. OnFiles c files (λ f. IsVerdict c f e)) → (e ≡ ending.ReadFault → Read) → (e ≡ ending.WriteFault → Write)
-    → IfSome command (λ c. OnFiles c files (λ f. IsGood c f → ¬ Read → ¬ Write → EndsWell c e))
+    → IfSome command (λ c. OnFiles c files (λ f. IsGood c f → ¬ Read → ¬ Write → EndsWell c f e))
 complete_of one None files e Read Write verdict read write = tt
 complete_of one (Some c) files e Read Write verdict read write =
-    on_each c files (λ f. IsVerdict c f e) (λ f. IsGood c f → ¬ Read → ¬ Write → EndsWell c e)
+    on_each c files (λ f. IsVerdict c f e) (λ f. IsGood c f → ¬ Read → ¬ Write → EndsWell c f e)
     (λ f is good no_read no_write. good_ends one c f good e is (λ h. no_read (read h)) (λ h. no_write (write h))) verdict

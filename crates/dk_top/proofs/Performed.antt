@@ -5,12 +5,11 @@ use Rattle.dk_desk.specs.Calls.{HasCauseIn}
 use Rattle.dk_endings.specs.declared.ending.Ending.{Ending}
 use Rattle.dk_endings.specs.declared.ending.Ending.TheVariants as ending
 use Rattle.dk_top.specs.Command.{Command}
-use Rattle.dk_top.specs.Verdict.{Files}
 use Rattle.dk_top.specs.Reading.{WritesFault}
 use Rattle.dk_top.specs.State.{IsFresh, FilesStay}
 use Rattle.dk_top.specs.Performing.{Performs, PerformsWork}
-use Rattle.dk_top.proofs.CommandLemmas.{order_stays, words_verdict, words_order, words_report, words_notes, words_begun, words_reads}
-use Rattle.dk_top.proofs.LongLemmas.{words_left}
+use Rattle.dk_top.specs.Meaning.{Files}
+use Rattle.dk_top.proofs.CommandLemmas.{order_stays, words_verdict, words_order, words_report, words_notes, words_begun, words_reads, words_left}
 use Rattle.dk_top.proofs.FileLemmas.{own_unasked}
 
 -- of the command that the words name
@@ -22,24 +21,10 @@ pub of_work : (c : Command) (e : Ending) (old new : Outside) → PerformsWork c 
 of_work c e old new h = record {
   usage = λ is. absurd (h.taken is);
   not_taken = λ none. absurd (let f : ⊥ = cc in f);
-  verdict = h.verdict;
-  read_fault = h.read_fault;
-  write_fault = h.write_fault;
-  asked = h.asked;
-  order = h.order;
-  too_long = h.too_long;
-  created = h.created;
-  begun = h.begun;
-  reads = h.reads;
-  written = h.written;
-  output = h.output;
-  files = h.files;
-  files_stay = h.files_stay;
-  own = h.own;
-  report = h.report;
-  report_stays = h.report_stays;
-  notes = h.notes;
-  notes_stay = h.notes_stay;
+  ends = h.ends;
+  asks = h.asks;
+  file = h.file;
+  tells = h.tells;
 }
 
 pub same_files : (o : Option Command) (files : Option Files) → FilesStay o files files
@@ -59,24 +44,32 @@ pub refused : (o : Option Command) (e : Ending) (old : Outside) → IsFresh old 
 refused o e old fresh usage either = record {
   usage = usage;
   not_taken = λ none. either;
-  verdict = words_verdict o old.files e usage either;
-  read_fault = no_cause (e ≡ ending.ReadFault) old.input_failures (neither e ending.ReadFault (λ is. cc) (λ is. cc) either);
-  write_fault = no_cause (e ≡ ending.WriteFault) old.output_failures (neither e ending.WriteFault (λ is. cc) (λ is. cc) either);
-  asked = record { program = λ asked. absurd (asked fresh.program); image = λ asked. absurd (asked fresh.image); file = λ asked. absurd (asked fresh.file) };
-  order = words_order o old.files old fresh.image;
-  too_long = words_left o old.files e old.program old.image either;
-  created = λ nothing. fresh.file;
-  begun = words_begun o old.files e old.file.stage either;
-  reads = words_reads o old.files e old.image old.file.stage either;
-  written = λ done. absurd (neither e ending.Done (λ is. cc) (λ is. cc) either done);
-  output = λ opened. absurd (let fresh_file = fresh.file in let f : ⊥ = cc in f);
-  files = same_files o old.files;
-  files_stay = λ closed. refl;
-  own = own_unasked old fresh.file;
-  report = words_report o old.files e old.file.bytes old.report either;
-  report_stays = λ nothing. refl;
-  notes = words_notes o old.files e old.notes either;
-  notes_stay = λ nothing. refl;
+  ends = record {
+    verdict = words_verdict o old.files e usage either;
+    read_fault = no_cause (e ≡ ending.ReadFault) old.input_failures (neither e ending.ReadFault (λ is. cc) (λ is. cc) either);
+    write_fault = no_cause (e ≡ ending.WriteFault) old.output_failures (neither e ending.WriteFault (λ is. cc) (λ is. cc) either);
+  };
+  asks = record {
+    asked = record { program = λ asked. absurd (asked fresh.program); image = λ asked. absurd (asked fresh.image); file = λ asked. absurd (asked fresh.file) };
+    order = words_order o old.files old fresh.image;
+    too_long = words_left o old.files e old.program old.image either;
+    reads = words_reads o old.files e old.image old.file.stage either;
+  };
+  file = record {
+    created = λ nothing. fresh.file;
+    begun = words_begun o old.files e old.file.stage either;
+    written = λ done. absurd (neither e ending.Done (λ is. cc) (λ is. cc) either done);
+    output = λ opened. absurd (let fresh_file = fresh.file in let f : ⊥ = cc in f);
+    files = same_files o old.files;
+    files_stay = λ closed. refl;
+    own = own_unasked old fresh.file;
+  };
+  tells = record {
+    report = words_report o old.files e old.file.bytes old.report either;
+    report_stays = λ nothing. refl;
+    notes = words_notes o old.files e old.notes either;
+    notes_stay = λ nothing. refl;
+  };
 }
 
 -- and a line to Fault
@@ -84,22 +77,21 @@ pub told : (o : Option Command) (e : Ending) (old mid new : Outside) → WritesF
 told o e old mid new only h = subst (λ (x : Outside). Performs o e old x) (sym only) (record {
   usage = h.usage;
   not_taken = h.not_taken;
-  verdict = h.verdict;
-  read_fault = h.read_fault;
-  write_fault = h.write_fault;
-  asked = record { program = h.asked.program; image = h.asked.image; file = h.asked.file };
-  order = order_stays o old.files mid (record mid { fault = new.fault; fault_failures = new.fault_failures }) refl h.order;
-  too_long = h.too_long;
-  created = h.created;
-  begun = h.begun;
-  reads = h.reads;
-  written = h.written;
-  output = h.output;
-  files = h.files;
-  files_stay = h.files_stay;
-  own = h.own;
-  report = h.report;
-  report_stays = h.report_stays;
-  notes = h.notes;
-  notes_stay = h.notes_stay;
+  ends = record { verdict = h.ends.verdict; read_fault = h.ends.read_fault; write_fault = h.ends.write_fault };
+  asks = record {
+    asked = record { program = h.asks.asked.program; image = h.asks.asked.image; file = h.asks.asked.file };
+    order = order_stays o old.files mid (record mid { fault = new.fault; fault_failures = new.fault_failures }) refl h.asks.order;
+    too_long = h.asks.too_long;
+    reads = h.asks.reads;
+  };
+  file = record {
+    created = h.file.created;
+    begun = h.file.begun;
+    written = h.file.written;
+    output = h.file.output;
+    files = h.file.files;
+    files_stay = h.file.files_stay;
+    own = h.file.own;
+  };
+  tells = record { report = h.tells.report; report_stays = h.tells.report_stays; notes = h.tells.notes; notes_stay = h.tells.notes_stay };
 })

@@ -12,8 +12,9 @@ use Rattle.pointwise_ir.specs.Programs.{Program}
 use Rattle.dk_compile.specs.Fronts.{IsFront}
 use Rattle.dk_compile.specs.Sources.{IsAccepted, IsSourceFault}
 use Rattle.dk_top.specs.Plans.{IsConfirmed, IsWrongLine}
-use Rattle.dk_top.specs.Reports.{IsChecked, IsReportFault}
-use Rattle.dk_top.specs.Verdict.{IsJudged, IsProgramAnswer, IsCheckAnswer}
+use Rattle.dk_top.specs.Reports.{IsChecked, IsReportFault, IsCheckAnswer}
+use Rattle.dk_top.specs.Verdict.{IsJudged}
+use Rattle.dk_top.specs.Program.{IsProgramAnswer}
 use Rattle.dk_top.proofs.VerdictLemmas.{TextApart, OneTextFault, ApartAt, OneFaultAt}
 use Rattle.dk_top.proofs.PlanFaults.{accepted_of}
 

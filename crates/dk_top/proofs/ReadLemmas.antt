@@ -19,8 +19,9 @@ use Rattle.dk_endings.specs.declared.ending.Ending.{Ending}
 use Rattle.dk_endings.specs.declared.ending.Ending.TheVariants as ending
 use Rattle.dk_compile.specs.Limits.{IsAcceptedAt, IsFaultAt}
 use Rattle.dk_top.specs.Program.{ports}
-use Rattle.dk_top.specs.Verdict.{Terms, Files, bytes_of, IsGoodPair, IsAnswer}
 use Rattle.dk_top.specs.Reading.{IsSourceEnding, IsImageEnding, IsFormAt, IsInputOf, IsRead}
+use Rattle.dk_top.specs.Output.{Terms, IsGoodPair, IsAnswer}
+use Rattle.dk_top.specs.Meaning.{Files, bytes_of}
 
 -- a form expects of files what its program expects
 pub ports_same : (p : Typing) (ir : Program) → IsForm p ir → ports_of ir ≡ ports p

@@ -10,12 +10,12 @@ use Rattle.dk_endings.specs.declared.ending.Ending.TheVariants as ending
 use Rattle.dk_endings.specs.Lines.{holds_line}
 use Rattle.dk_top.specs.Plans.{IsPlanOf}
 use Rattle.dk_top.specs.Compiling.{AreNetLines}
-use Rattle.dk_top.specs.Reports.{IsChecked}
+use Rattle.dk_top.specs.Reports.{IsChecked, IsCheckAnswer, IsClaimLine}
 use Rattle.dk_compile.specs.Sources.{IsSourceFault}
-use Rattle.dk_top.specs.Verdict.{Files, bytes_of, IsCheckAnswer}
-use Rattle.dk_top.specs.State.{GainsText, IsClaimLine, ReportsFront}
 use Rattle.dk_top.specs.Reading.{Stops, IsJudgement, IsSourceEnding}
 use Rattle.dk_top.specs.Reporting.{HasFront, IsReportEnding}
+use Rattle.dk_top.specs.Meaning.{Files, bytes_of}
+use Rattle.dk_top.specs.Texts.{GainsText, ReportsFront}
 use Rattle.dk_top.proofs.LongLemmas.{judgement_stops}
 
 -- the report does not hold

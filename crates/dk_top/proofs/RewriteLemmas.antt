@@ -5,10 +5,10 @@ use Rattle.dk_desk.specs.Outside.{Outside, Created}
 use Rattle.dk_desk.specs.Calls.{IsIfTold, grown}
 use Rattle.dk_words.specs.declared.command.Rewriting.{Rewriting}
 use Rattle.dk_endings.specs.declared.ending.Ending.TheVariants as ending
-use Rattle.dk_top.specs.Rewriting.{IsRewriteOf, AreRewriteLines, AreLinesOfStored}
-use Rattle.dk_top.specs.Verdict.{Files, bytes_of}
-use Rattle.dk_top.specs.State.{IsPrefix, ReportsRewrite, ReportsFront}
+use Rattle.dk_top.specs.Rewriting.{IsRewriteOf, AreRewriteLines, AreLinesOfStored, ReportsRewrite}
 use Rattle.dk_top.specs.Reading.{EndsInLine}
+use Rattle.dk_top.specs.Meaning.{Files, bytes_of}
+use Rattle.dk_top.specs.Texts.{IsPrefix, ReportsFront}
 use Rattle.dk_top.proofs.ReportLemmas.{whole, front}
 
 -- a text that is whole is a prefix of itself

@@ -34,9 +34,9 @@ use Rattle.dk_endings.specs.declared.verilog.VerilogFault.TheVariants.{TooLong, 
 use Rattle.dk_endings.specs.declared.verilog.VerilogKind.{VerilogKind}
 use Rattle.dk_endings.specs.declared.verilog.VerilogKind.TheVariants as kind
 use Rattle.dk_endings.specs.Verilog.{fault_told}
-use Rattle.dk_top.specs.Simulation.{of_text, of_ports, IsModuleOf, LacksEnable, IsTextFault, IsVerilogFault, FitsModule, IsFileFault, IsSimulated, IsUnfit, IsStopped}
+use Rattle.dk_top.specs.Simulation.{of_text, of_ports, IsModuleOf, LacksEnable, IsTextFault, IsVerilogFault, FitsModule, IsFileFault, IsSimulated, IsUnfit, IsStopped, IsSimAnswer}
 use Rattle.dk_top.specs.Tracing.{CanBeTraced, IsTraceAnswer}
-use Rattle.dk_top.specs.Verdict.{AreAlike, IsSimAnswer, IsJudged}
+use Rattle.dk_top.specs.Verdict.{AreAlike, IsJudged}
 
 -- the laws of Verilog texts, of files for a bench and of what a bench gives
 abbrev pub OneModule : Type 0

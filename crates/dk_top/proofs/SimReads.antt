@@ -28,13 +28,13 @@ use Rattle.verilog_text.specs.declared.fault.TextFault.TheVariants as text
 use Rattle.dk_endings.specs.declared.verilog.VerilogFault.{VerilogFault}
 use Rattle.dk_base.specs.declared.TheConstants.{MAX_VERILOG_BYTES}
 use Rattle.dk_endings.specs.Verilog.{fault_told}
-use Rattle.dk_top.specs.Simulation.{of_text, drive_of, IsModuleOf, IsVerilogFault, FitsModule, IsSimulated, IsStopped}
-use Rattle.dk_top.specs.Verdict.{Files, bytes_of, IsSimAnswer}
-use Rattle.dk_top.specs.State.{NotesSim, IsNoted}
+use Rattle.dk_top.specs.Simulation.{of_text, drive_of, IsModuleOf, IsVerilogFault, FitsModule, IsSimulated, IsStopped, IsSimAnswer, NotesSim}
+use Rattle.dk_top.specs.State.{IsNoted}
 use Rattle.dk_top.specs.Command.{sim}
 use Rattle.dk_top.specs.Reading.{Stops}
 use Rattle.dk_top.specs.Tracing.{trace_drive, IsTraceAnswer}
 use Rattle.dk_top.specs.Simulating.{IsModuleEnding, IsFileEnding, IsInputEnding, IsInputRefusal, IsSimInput}
+use Rattle.dk_top.specs.Meaning.{Files, bytes_of}
 use Rattle.dk_top.proofs.SimLemmas.{OneModule, OneRounds, fits_some}
 
 -- what is specified of a text's fault is a fault of the text

@@ -28,13 +28,13 @@ use Rattle.dk_endings.specs.declared.ending.Ending.TheVariants as ending
 use Rattle.dk_endings.specs.declared.ending.ImageFault.TheVariants.{File, TooLong}
 use Rattle.dk_compile.specs.Limits.{IsAcceptedAt}
 use Rattle.dk_top.specs.Program.{ports}
-use Rattle.dk_top.specs.Output.{output_file}
+use Rattle.dk_top.specs.Output.{output_file, run_terms, OfPair}
 use Rattle.dk_top.specs.Compiling.{IsCompiledFrom, NotesRun}
-use Rattle.dk_top.specs.Streaming.{IsOnePort, first_bits, IsBegun, output_kind, shown_by, OfStream, ReadsToFault, ReadsFirst, CreatesAtFailure, OnStream, ReadsRun, LeavesAtFault, LeavesAtRead, LeavesAtWrite}
-use Rattle.dk_top.specs.Verdict.{Files, bytes_of, run_terms, OfPair, IsRunAnswer}
+use Rattle.dk_top.specs.Streaming.{IsOnePort, first_bits, IsBegun, output_kind, shown_by, OfStream, ReadsToFault, ReadsFirst, CreatesAtFailure, OnStream, ReadsRun, LeavesAtFault, LeavesAtRead, LeavesAtWrite, IsRunAnswer, CreatesRun, IsStreamed, IsStoredRun, by_lines, NotedRun}
 use Rattle.dk_top.specs.Command.{run}
-use Rattle.dk_top.specs.State.{OthersStay, HasOwnFile, CreatesNothing, CreatesRun, IsStreamed, IsStoredRun, by_lines, NotedRun}
+use Rattle.dk_top.specs.State.{OthersStay, HasOwnFile, CreatesNothing}
 use Rattle.dk_top.specs.Streams.{StreamEnds, OpensImages, RunsOn}
+use Rattle.dk_top.specs.Meaning.{Files, bytes_of}
 use Rattle.dk_top.proofs.VerdictLemmas.{OneProgram}
 use Rattle.dk_top.proofs.FileLemmas.{own_created, own_grown, own_unasked}
 use Rattle.dk_top.proofs.CompileLemmas.{PlannedAccepted, compiled_accepted}

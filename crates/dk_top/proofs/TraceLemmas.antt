@@ -25,14 +25,14 @@ use Rattle.trace_bench.specs.declared.ending.TraceEnd.TheVariants.{Stopped, Writ
 use Rattle.trace_bench.specs.Traces.{in_header as fails_in_header, in_clock as fails_in_clock, at_end as fails_at_end, values_of, trace_front, TracesRun, FailsTracing, FailsBehind, EndsTrace}
 use Rattle.dk_endings.specs.declared.ending.Ending.{Ending}
 use Rattle.dk_endings.specs.declared.ending.Ending.TheVariants as ending
-use Rattle.dk_top.specs.Tracing.{in_header, in_clock, at_end, IsInOrder, AreInOrder, CanBeTraced, IsTraced, HoldsTrace, HoldsToStop, HoldsCut, IsCutBehind, IsCutTrace, IsTraceAnswer, IsStoredTrace}
-use Rattle.dk_top.specs.Verdict.{Files, bytes_of}
+use Rattle.dk_top.specs.Tracing.{in_header, in_clock, at_end, IsInOrder, AreInOrder, CanBeTraced, IsTraced, HoldsTrace, HoldsToStop, HoldsCut, IsCutBehind, IsCutTrace, IsTraceAnswer, IsStoredTrace, CreatesTrace}
 use Rattle.dk_words.specs.declared.command.PowerUp.{PowerUp}
 use Rattle.dk_words.specs.declared.command.PowerUp.TheVariants.{Zeros}
 use Rattle.dk_top.specs.Command.{trace}
 use Rattle.dk_top.specs.Simulation.{drive_of}
-use Rattle.dk_top.specs.State.{OthersStay, HoldsFile, CreatesBy, CreatesTrace}
+use Rattle.dk_top.specs.State.{OthersStay, HoldsFile, CreatesBy}
 use Rattle.dk_top.specs.Simulating.{IsInputEnding, IsSimInput}
+use Rattle.dk_top.specs.Meaning.{Files, bytes_of}
 use Rattle.dk_top.proofs.SimReads.{samples_same, stopped_of}
 use Rattle.dk_top.proofs.FileLemmas.{own_added, own_front}
 

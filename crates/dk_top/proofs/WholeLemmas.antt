@@ -13,9 +13,9 @@ use Rattle.dk_endings.specs.declared.ending.Ending.TheVariants as ending
 use Rattle.dk_types.specs.Typed.{Typing}
 use Rattle.pointwise_ir.specs.Programs.{Program}
 use Rattle.dk_compile.specs.Fronts.{IsForm}
-use Rattle.dk_top.specs.Verdict.{Files, bytes_of}
 use Rattle.dk_top.specs.State.{LeavesRest, LeavesText, LeavesBoth}
 use Rattle.dk_top.specs.Reading.{OfFile, OfFiles, ReadsInputs, IsNamed, Stops, IsJudgement, TellsRead, IsUnread, failed, memory, long, IsUnreadText, IsImageEnding, ReadsWhole, ReadsText, ReadsBoth}
+use Rattle.dk_top.specs.Meaning.{Files, bytes_of}
 use Rattle.dk_top.proofs.LongLemmas.{judgement_stops, judgement_read, judgement_text, judgement_images}
 use Rattle.dk_top.proofs.RunLemmas.{same_count, ok_apart}
 

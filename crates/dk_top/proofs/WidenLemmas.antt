@@ -10,8 +10,11 @@ use Rattle.dk_words.specs.declared.command.Rewriting.TheVariants.{Cut, Narrow, W
 use Rattle.dk_compile.specs.Limits.{IsFaultAt}
 use Rattle.dk_compile.specs.Widened.{IsWidenFault}
 use Rattle.dk_compile.proofs.Widened.{one_reason}
-use Rattle.dk_top.specs.Verdict.{Files, bytes_of, IsJudged, IsProgramAnswer, IsRewriteAnswer, CanBeRewritten, CanBeWidened, IsUnable}
+use Rattle.dk_top.specs.Verdict.{IsJudged}
 use Rattle.dk_top.specs.Reading.{IsSourceEnding, IsRewriteEnding}
+use Rattle.dk_top.specs.Meaning.{Files, bytes_of}
+use Rattle.dk_top.specs.Program.{IsProgramAnswer}
+use Rattle.dk_top.specs.Rewriting.{IsRewriteAnswer, CanBeRewritten, CanBeWidened, IsUnable}
 use Rattle.dk_top.proofs.VerdictLemmas.{OneProgram, ApartAt, OneFaultAt}
 use Rattle.dk_top.proofs.PlanLemmas.{program_answer}
 
@@ -70,18 +73,6 @@ pub rewritten_done : (how : Rewriting) (text : List ℕ) → CanBeRewritten how 
 rewritten_done (Cut levels) text can = can
 rewritten_done Narrow text can = can
 rewritten_done (Widen phases) text can = can
-
--- its words are taken
-pub rewritten_usage : (how : Rewriting) (text : List ℕ) → IsRewriteAnswer how text ending.Usage → ⊥
-rewritten_usage (Cut levels) text is = is
-rewritten_usage Narrow text is = is
-rewritten_usage (Widen phases) text is = is
-
--- the program is accepted, and this ending needs nothing more
-pub rewritten_memory : (how : Rewriting) (text : List ℕ) → IsRewriteAnswer how text ending.Memory
-rewritten_memory (Cut levels) text = tt
-rewritten_memory Narrow text = tt
-rewritten_memory (Widen phases) text = tt
 
 -- the answer of a program that is refused
 refused_answer : (text : List ℕ) (e : Ending) → IsSourceEnding (IsFaultAt text 0) e → IsProgramAnswer 0 text e

@@ -1,5 +1,5 @@
 -- What a program's text is compiled to, and how it is clocked.
-use Rattle.std.specs.Prelude.{◌≡◌, ℕ, Bool, false, IsTrue, List, ◌++◌, length, Option, None}
+use Rattle.std.specs.Prelude.{◌≡◌, ℕ, Bool, false, IsTrue, List, ◌++◌, length, Option, None, Some}
 use Rattle.std.specs.List.{AllZip}
 use Rattle.std.specs.Option.{option_map}
 use Rattle.dk_desk.specs.Calls.{IsIfTold}
@@ -15,6 +15,9 @@ use Rattle.dk_compile.specs.declared.compiling.Compiled.{Compiled}
 use Rattle.dk_compile.specs.Compiled.{IsCompiled}
 use Rattle.net_lines.specs.Lines.{net_lines}
 pub use Rattle.test_bench.specs.Drives.{filled_drive, frame_drive}
+use Rattle.dk_top.specs.Meaning.{bytes_of, reports_text, Meaning, of_text}
+use Rattle.dk_top.specs.Texts.{HoldsText}
+use Rattle.dk_top.specs.Program.{program_answers}
 
 -- This is what the text is compiled to at an age, with the port `en` or without it.
 pub record IsCompiledFrom (source : List ℕ) (age : ℕ) (enable : Bool) (block : Option ℕ) (c : Compiled) : Type 0 where
@@ -63,3 +66,14 @@ pub record NotesRun (source : List ℕ) (age : ℕ) (p : Typing) (rounds : List 
   -- the notes of each module of the program agree with them, whatever text of `compile` denotes it
   pub every : (notes : List (Bool × ℕ)) → AreTextNotes source age p compiled.plan rounds notes → AgreeWhereValid gained notes
   pub told : IsIfTold new (option_map (λ notes. notes ++ gained) old)
+
+-- what `compile` means
+abbrev pub compile_meaning : (program out : List ℕ) → (enable : Bool) → (age : ℕ) → (block : Option ℕ) → Meaning
+compile_meaning program out enable age block = record (of_text program (program_answers age)) {
+  out = Some out;
+  stored = λ result files left bytes. HoldsText (IsCompiledText (bytes_of files program) age enable block) result bytes;
+}
+
+-- what `nets` means
+abbrev pub nets_meaning : (program : List ℕ) → (enable : Bool) → (age : ℕ) → (block : Option ℕ) → Meaning
+nets_meaning program enable age block = record (of_text program (program_answers age)) { reports = reports_text (λ files. AreNetLines (bytes_of files program) age enable block) }

@@ -1,5 +1,5 @@
 -- What is reported of a made program: it is compiled, and clocked on its image.
-use Rattle.std.specs.Prelude.{◌≡◌, ℕ, ◌-◌, Bool, false, List, length, map, Option, None}
+use Rattle.std.specs.Prelude.{◌≡◌, ℕ, ◌-◌, Bool, false, List, [], length, map, Option, None}
 use Rattle.std.specs.List.{sum}
 use Rattle.dk_base.specs.Stencils.{Stencils}
 use Rattle.dk_types.specs.Typed.{Typing}
@@ -10,9 +10,10 @@ use Rattle.made_program.specs.Programs.{program_of}
 use Rattle.made_program.specs.Images.{image_of}
 use Rattle.made_program.specs.Summary.{summary}
 use Rattle.dk_compile.specs.declared.compiling.Compiled.{Compiled}
-use Rattle.dk_top.specs.Program.{ports}
+use Rattle.dk_top.specs.Program.{ports, program_answers}
 use Rattle.dk_top.specs.Output.{outputs_of, output_file, all_samples}
 use Rattle.dk_top.specs.Compiling.{IsCompiledFrom, NotesRun}
+use Rattle.dk_top.specs.Meaning.{reports_text, noted_at_done, Meaning, of_text}
 
 -- The program of a number was compiled to this, its image is that of these rounds, and this is the file of the outputs.
 pub record IsMade (n : ℕ) (compiled : Compiled) (rounds : List (List Image)) (file : List ℕ) : Type 0 where
@@ -43,3 +44,12 @@ pub record NotesMade (n : ℕ) (old new : Option (List (Bool × ℕ))) : Type 0 
   pub rounds : List (List Image)
   pub fits : FitsFile (ports program) (image_of n) rounds
   pub noted : NotesRun (program_of n) 0 program rounds old new
+
+-- what `make` means, which reads no file
+abbrev pub make_meaning : (number : ℕ) → Meaning
+make_meaning number = record (of_text [] (program_answers 0)) {
+  program = None;
+  answers = λ files. program_answers 0 (program_of number);
+  reports = reports_text (λ files. IsMadeLine number);
+  notes = noted_at_done (λ files. NotesMade number);
+}

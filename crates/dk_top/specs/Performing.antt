@@ -70,31 +70,44 @@ HasNoted command e old new = OnCommand command old (λ c files. IsNoted c e file
 abbrev pub NotesStay : Option Command → (old new : Outside) → Type 0
 NotesStay command old new = NotesNothing command → new.notes ≡ old.notes
 
--- all of it
-pub record Performs (command : Option Command) (e : Ending) (old new : Outside) : Type 0 where
-  -- which ending comes
-  pub usage : e ≡ ending.Usage → command ≡ None
-  pub not_taken : command ≡ None → IsOrMemory e ending.Usage
+-- which ending comes
+pub record HasEnding (command : Option Command) (e : Ending) (old new : Outside) : Type 0 where
   pub verdict : EndsRight command e old
   pub read_fault : ReportsRead e old new
   pub write_fault : ReportsWrite e old new
-  -- what was requested, read and created, and what File and the files hold
+
+-- what was requested and read
+pub record HasAsked (command : Option Command) (e : Ending) (old new : Outside) : Type 0 where
   pub asked : AsksOnly command new
   pub order : AsksAfter command old new
   pub too_long : LeavesRestOf command e old new
+  pub reads : HasRead command e old new
+
+-- what was created, and what File and the files hold
+pub record HasFile (command : Option Command) (e : Ending) (old new : Outside) : Type 0 where
   pub created : CreatesLast command e new
   pub begun : HasCreated command e old new
-  pub reads : HasRead command e old new
   pub written : HasWritten command e new
   pub output : HasStored command e old new
   pub files : FilesStay command old.files new.files
   pub files_stay : AllStay old new
   pub own : HasOwnFile new
-  -- Report and the notes
+
+-- what Report and the notes have gained
+pub record HasTold (command : Option Command) (e : Ending) (old new : Outside) : Type 0 where
   pub report : HasReported command e old new
   pub report_stays : ReportStays command e old new
   pub notes : HasNoted command e old new
   pub notes_stay : NotesStay command old new
+
+-- all of it
+pub record Performs (command : Option Command) (e : Ending) (old new : Outside) : Type 0 where
+  pub usage : e ≡ ending.Usage → command ≡ None
+  pub not_taken : command ≡ None → IsOrMemory e ending.Usage
+  pub ends : HasEnding command e old new
+  pub asks : HasAsked command e old new
+  pub file : HasFile command e old new
+  pub tells : HasTold command e old new
 
 -- what holds of the ending of a result: it is Done, or the error
 abbrev pub OfEnding : {A : Type 0} → Result A Ending → (Ending → Type 0) → Type 0
@@ -103,23 +116,9 @@ OfEnding result P = MatchResult result (λ _. P ending.Done) P
 -- All of it, of the words of a command. Fault stays.
 pub record PerformsWork (c : Command) (e : Ending) (old new : Outside) : Type 0 where
   pub taken : e ≢ ending.Usage
-  pub verdict : EndsRight (Some c) e old
-  pub read_fault : ReportsRead e old new
-  pub write_fault : ReportsWrite e old new
-  pub asked : AsksOnly (Some c) new
-  pub order : AsksAfter (Some c) old new
-  pub too_long : LeavesRestOf (Some c) e old new
-  pub created : CreatesLast (Some c) e new
-  pub begun : HasCreated (Some c) e old new
-  pub reads : HasRead (Some c) e old new
-  pub written : HasWritten (Some c) e new
-  pub output : HasStored (Some c) e old new
-  pub files : FilesStay (Some c) old.files new.files
-  pub files_stay : AllStay old new
-  pub own : HasOwnFile new
-  pub report : HasReported (Some c) e old new
-  pub report_stays : ReportStays (Some c) e old new
-  pub notes : HasNoted (Some c) e old new
-  pub notes_stay : NotesStay (Some c) old new
+  pub ends : HasEnding (Some c) e old new
+  pub asks : HasAsked (Some c) e old new
+  pub file : HasFile (Some c) e old new
+  pub tells : HasTold (Some c) e old new
   pub fault : new.fault ≡ old.fault
   pub fault_count : new.fault_failures ≡ old.fault_failures

@@ -10,7 +10,8 @@ use Rattle.dk_compile.specs.Limits.{IsFaultAt}
 use Rattle.dk_plan.specs.declared.judging.Claim.{Claim}
 use Rattle.dk_plan.specs.Planned.{aged, IsReportText}
 use Rattle.dk_plan.specs.Judged as of_program
-use Rattle.dk_top.specs.Program.{CanBeCompiled}
+use Rattle.dk_top.specs.Program.{CanBeCompiled, program_answers}
+use Rattle.dk_top.specs.Meaning.{bytes_of, reports_text, Meaning, of_text}
 
 -- The text is accepted, and these are the names of its program's images and its live reads.
 pub record HasStencils (text : List ℕ) (names : List (List ℕ)) (s : Stencils) : Type 0 where
@@ -51,3 +52,7 @@ pub record HasOneAnswer : Type 0 where
   pub claim : (text bytes : List ℕ) (c d : Claim) → IsConfirmed text bytes c → IsConfirmed text bytes d → c ≡ d
   pub wrong : (text bytes : List ℕ) (c : Claim) (line : ℕ) → IsConfirmed text bytes c → IsWrongLine text bytes line → ⊥
   pub line : (text bytes : List ℕ) (m n : ℕ) → IsWrongLine text bytes m → IsWrongLine text bytes n → m ≡ n
+
+-- what `plan` means
+abbrev pub plan_meaning : (program : List ℕ) → (age : ℕ) → Meaning
+plan_meaning program age = record (of_text program (program_answers age)) { reports = reports_text (λ files. IsPlanOf (bytes_of files program) age) }

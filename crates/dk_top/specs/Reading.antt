@@ -25,10 +25,12 @@ use Rattle.dk_base.specs.declared.TheConstants.{MAX_SOURCE_BYTES}
 use Rattle.dk_compile.specs.Limits.{IsAcceptedAt, IsFaultAt}
 use Rattle.dk_words.specs.declared.command.Rewriting.{Rewriting}
 use Rattle.dk_words.specs.declared.command.Rewriting.TheVariants.{Widen}
-use Rattle.dk_top.specs.Output.{Fits, IsImageFault}
+use Rattle.dk_top.specs.Output.{Fits, IsImageFault, Terms, IsGoodPair}
 use Rattle.dk_desk.specs.Outside.{Outside, Input, input}
-use Rattle.dk_top.specs.Verdict.{Terms, bytes_of, IsGoodPair, IsUnable}
-use Rattle.dk_top.specs.State.{LeavesRest, LeavesText, LeavesImages, LeavesBoth, ReportsFront}
+use Rattle.dk_top.specs.State.{LeavesRest, LeavesText, LeavesImages, LeavesBoth}
+use Rattle.dk_top.specs.Meaning.{bytes_of}
+use Rattle.dk_top.specs.Rewriting.{IsUnable}
+use Rattle.dk_top.specs.Texts.{ReportsFront}
 
 -- what holds of the bytes of the file of this name, if the desk specifies its files
 abbrev pub OfFile : Outside → (name : List ℕ) → (List ℕ → Type 0) → Type 0

@@ -18,10 +18,9 @@ use Rattle.stimulus.specs.Given.{AreBenchFrames}
 use Rattle.dk_base.specs.FrameSizes.{size_of}
 use Rattle.dk_top.specs.declared.commands.simulating.SimInput.{SimInput}
 use Rattle.dk_top.specs.Command.{trace}
-use Rattle.dk_top.specs.Simulation.{drive_of, IsVerilogFault, IsFileFault, IsUnfit, IsModuleOf, FitsModule, IsSimulated}
-use Rattle.dk_top.specs.Tracing.{IsTraceAnswer, IsStoredTrace}
-use Rattle.dk_top.specs.Verdict.{IsSimAnswer}
-use Rattle.dk_top.specs.State.{CreatesNothing, CreatesTrace, OthersStay, HasOwnFile, NotesSim}
+use Rattle.dk_top.specs.Simulation.{drive_of, IsVerilogFault, IsFileFault, IsUnfit, IsModuleOf, FitsModule, IsSimulated, IsSimAnswer, NotesSim}
+use Rattle.dk_top.specs.Tracing.{IsTraceAnswer, IsStoredTrace, CreatesTrace}
+use Rattle.dk_top.specs.State.{CreatesNothing, OthersStay, HasOwnFile}
 use Rattle.dk_top.specs.Reading.{Stops, TellsNoText, TellsNoImages, NotesOnly}
 use Rattle.dk_top.specs.Performing.{ReportsWrite, AllStay}
 
@@ -50,10 +49,6 @@ IsInputEnding drive text file _ = ⊥
 -- the same, whatever clocks are requested
 abbrev pub IsInputRefusal : Option ℕ → (text file : List ℕ) → Ending → Type 0
 IsInputRefusal hold text file e = (clocks : ℕ) (power : PowerUp) → IsInputEnding (drive_of clocks power hold) text file e
-
--- the text is that of a module
-abbrev pub HasModule : Option ℕ → (text : List ℕ) → Type 0
-HasModule hold text = (m : NamedNetlist) × IsModuleOf hold text m
 
 -- The file fits the module, with this size and with the frames of these rounds.
 pub record IsInput (m : NamedNetlist) (file : List ℕ) (size : Size) (rounds : List Round) : Type 0 where

@@ -1,5 +1,5 @@
 -- What `sim` judges: a Verilog text, a file of images for its module, and the run of the module.
-use Rattle.std.specs.Prelude.{◌≡◌, ℕ, ◌<◌, ◌≤◌, true, List, length, Option, IsSome}
+use Rattle.std.specs.Prelude.{◌≡◌, ℕ, ◌<◌, ◌≤◌, Bool, true, List, ◌++◌, length, Option, Some, IsSome}
 use Rattle.dk_base.specs.declared.span.Span.{Span}
 use Rattle.dk_base.specs.Frames.{Size}
 use Rattle.netlist.specs.Names.{NamedNetlist}
@@ -16,7 +16,7 @@ use Rattle.pgm_rounds.specs.declared.fault.FileFault.{FileFault}
 use Rattle.stimulus.specs.declared.drive.Drive.{Drive}
 use Rattle.stimulus.specs.declared.stop.Stop.{Stop}
 use Rattle.stimulus.specs.Inputs.{FitsBench, IsBenchFault, samples_of}
-use Rattle.stimulus.specs.Showing.{IsShown}
+use Rattle.stimulus.specs.Showing.{IsShown, IsNoted as AreNotes}
 use Rattle.stimulus.specs.Stops.{IsStop}
 use Rattle.dk_words.specs.declared.command.PowerUp.{PowerUp}
 use Rattle.dk_words.specs.declared.command.PowerUp.TheVariants.{Zeros, Ones}
@@ -27,6 +27,11 @@ use Rattle.dk_endings.specs.declared.verilog.VerilogFault.TheVariants.{TooLong, 
 use Rattle.dk_endings.specs.declared.verilog.VerilogKind.TheVariants.{Ports}
 use Rattle.dk_base.specs.declared.TheConstants.{MAX_PGM_BYTES, MAX_VERILOG_BYTES}
 use Rattle.dk_endings.specs.Verilog.{fault_told}
+use Rattle.std.specs.Option.{option_map}
+use Rattle.dk_desk.specs.Calls.{IsIfTold}
+use Rattle.dk_endings.specs.declared.ending.Ending.{Ending}
+use Rattle.dk_top.specs.Meaning.{bytes_of, Answers, faultless, IsAnswered, noted_at_done, Meaning, of_both}
+use Rattle.dk_top.specs.Texts.{HoldsOutput}
 
 -- how the command's words drive a module
 abbrev pub fill_of : PowerUp → Fill
@@ -96,3 +101,45 @@ pub record IsStopped (drive : Drive) (text file : List ℕ) (stop : Stop) : Type
   pub one_valuation : HasOneSnapshot m.netlist
   pub one_next : HasOneNext m.netlist
   pub stops : IsStop m.netlist drive size (samples_of images) stop
+
+-- a module shows pictures of the file
+abbrev pub CanBeSimulated : Drive → (text file : List ℕ) → Type 0
+CanBeSimulated drive text file = (pictures : List ℕ) × IsSimulated drive text file pictures
+
+-- when each ending comes for a Verilog text and a file of images
+abbrev pub sim_answers : Drive → (text file : List ℕ) → Answers
+sim_answers drive text file = record (faultless (CanBeSimulated drive text file)) {
+  verilog = IsVerilogFault drive.hold text;
+  image = IsUnfit drive text file;
+  stopped = IsStopped drive text file;
+}
+
+abbrev pub IsSimAnswer : Drive → (text file : List ℕ) → Ending → Type 0
+IsSimAnswer drive text file result = IsAnswered (sim_answers drive text file) result
+
+-- the notes have gained those of the module's run
+pub record NotesSim (drive : Drive) (text file : List ℕ) (old new : Option (List (Bool × ℕ))) : Type 0 where
+  pub m : NamedNetlist
+  pub made : IsModuleOf drive.hold text m
+  pub size : Size
+  pub images : List (List Image)
+  pub fits : FitsModule m file size images
+  pub gained : List (Bool × ℕ)
+  pub run : AreNotes m.netlist drive (samples_of images) gained
+  pub told : IsIfTold new (option_map (λ notes. notes ++ gained) old)
+
+-- the pictures that the module shows
+abbrev pub IsStoredSim : Ending → Drive → (text file bytes : List ℕ) → Type 0
+IsStoredSim result drive text file bytes = (pictures : List ℕ) → IsSimulated drive text file pictures → HoldsOutput result bytes pictures
+
+-- the text is that of a module
+abbrev pub HasModule : Option ℕ → (text : List ℕ) → Type 0
+HasModule hold text = (m : NamedNetlist) × IsModuleOf hold text m
+
+-- what `sim` means
+abbrev pub sim_meaning : (verilog : List ℕ) → (clocks : ℕ) → (image out : List ℕ) → PowerUp → (hold : Option ℕ) → Meaning
+sim_meaning verilog clocks image out fill hold = record (of_both verilog image true (HasModule hold) (sim_answers (drive_of clocks fill hold))) {
+  out = Some out;
+  stored = λ result files left bytes. IsStoredSim result (drive_of clocks fill hold) (bytes_of files verilog) (bytes_of files image) bytes;
+  notes = noted_at_done (λ files. NotesSim (drive_of clocks fill hold) (bytes_of files verilog) (bytes_of files image));
+}

@@ -25,8 +25,11 @@ use Rattle.dk_compile.specs.Limits.{IsAcceptedAt}
 use Rattle.dk_endings.specs.declared.ending.Ending.{Ending}
 use Rattle.dk_endings.specs.declared.ending.Ending.TheVariants as ending
 pub use Rattle.dk_compile.specs.Ports.{IsOnePort}
-use Rattle.dk_top.specs.Program.{ports}
-use Rattle.dk_top.specs.Compiling.{IsCompiledFrom}
+use Rattle.dk_top.specs.Program.{ports, CanBeCompiled}
+use Rattle.dk_top.specs.Compiling.{IsCompiledFrom, NotesRun}
+use Rattle.dk_top.specs.Meaning.{bytes_of, Answers, IsAnswered, Notes, OnlyAtDone, created_streaming, noted_at_done, Meaning, of_both}
+use Rattle.dk_top.specs.Texts.{IsPrefix}
+use Rattle.dk_top.specs.Output.{Fits, output_file, run_terms, OfPair, pair_answers}
 
 -- the bits of the first input
 abbrev pub first_bits : Typing → ℕ
@@ -233,3 +236,63 @@ ReadsRun (ending.Image fault) age source file image created = OnStream source ag
 ReadsRun ending.ReadFault age source file image created = FailsReading age source file image created
 ReadsRun ending.WriteFault age source file image created = created ≡ Refused → OnStream source age (λ p. ReadsFirst p file image.rest)
 ReadsRun _ age source file image created = ⊤
+
+-- the program has one input and one output, and the file begins with a header that fits it
+abbrev pub IsStreamed : Typing → (file : List ℕ) → Type 0
+IsStreamed p file = IsOnePort p × IsBegun p file
+
+-- A fault of the images comes with a created file exactly where the images are streamed and their first header is in order.
+pub record CreatesStreamed (age : ℕ) (source file : List ℕ) (stage : Stage) : Type 0 where
+  pub streamed : (p : Typing) → IsAcceptedAt source age p → IsStreamed p file → stage ≡ Open
+  pub whole : (p : Typing) → IsAcceptedAt source age p → ¬ (IsStreamed p file) → stage ≡ Unasked
+
+-- whether `run` has created its file where the images have a fault or a read failed
+abbrev pub CreatesRun : (age : ℕ) → (source file : List ℕ) → Ending → Stage → Type 0
+CreatesRun age source file (ending.Image fault) stage = CreatesStreamed age source file stage
+CreatesRun age source file ending.ReadFault stage = stage ≢ Unasked → (p : Typing) × IsAcceptedAt source age p × IsStreamed p file
+CreatesRun age source file _ stage = ⊤
+
+-- The text is accepted, and what was read of the file until a write failed is in order: its first header, if the program has one input
+-- and one output; else the whole file.
+pub record CanBeWritten (age : ℕ) (source file : List ℕ) : Type 0 where
+  pub program : Typing
+  pub accepted : IsAcceptedAt source age program
+  pub begun : IsOnePort program → IsBegun program file
+  pub whole : ¬ (IsOnePort program) → (rounds : List (List Image)) × Fits None program file rounds
+
+-- When each ending of `run` comes. The images of a program with one input and one output are judged while they are clocked.
+abbrev pub run_answers : (age : ℕ) → (source file : List ℕ) → Answers
+run_answers age source file = record (pair_answers (run_terms age) source file) { write = CanBeWritten age source file }
+
+abbrev pub IsRunAnswer : (age : ℕ) → (source file : List ℕ) → Ending → Type 0
+IsRunAnswer age source file result = IsAnswered (run_answers age source file) result
+
+-- what `run` notes at Done: the clocks of its module
+abbrev pub NotesFrames : (age : ℕ) → (source file : List ℕ) → (old new : Notes) → Type 0
+NotesFrames age source file old new = OfPair (run_terms age) source file (λ p rounds. NotesRun source age p rounds old new)
+
+abbrev pub NotedRun : Ending → (age : ℕ) → (source file : List ℕ) → (old new : Notes) → Type 0
+NotedRun result age source file old new = OnlyAtDone result (NotesFrames age source file old new)
+
+-- A program with one input and one output writes line by line; any other writes the whole file at once.
+pub data HoldsAtWrite (age : ℕ) (source file : List ℕ) (left : Option (List ℕ)) (bytes : List ℕ) : Type 0 where
+  by_lines : OfStream source age (λ p late. LeavesAtWrite p late file left bytes) → HoldsAtWrite age source file left bytes
+  at_once : (p : Typing) → IsAcceptedAt source age p → ¬ (IsOnePort p) → (rounds : List (List Image)) → Fits None p file rounds
+      → IsPrefix bytes (output_file p rounds) → HoldsAtWrite age source file left bytes
+
+-- What File holds after `run`, where it was created; `left` is what is left of the image file.
+abbrev pub IsStoredRun : Ending → (age : ℕ) → (source file : List ℕ) → (left : Option (List ℕ)) → (bytes : List ℕ) → Type 0
+IsStoredRun ending.Done age source file left bytes = OfPair (run_terms age) source file (λ p rounds. bytes ≡ output_file p rounds)
+IsStoredRun (ending.Image fault) age source file left bytes = OfStream source age (λ p late. LeavesAtFault p late file left bytes)
+IsStoredRun ending.ReadFault age source file left bytes = OfStream source age (λ p late. LeavesAtRead p late file left bytes)
+IsStoredRun ending.WriteFault age source file left bytes = HoldsAtWrite age source file left bytes
+IsStoredRun _ age source file left bytes = ⊤
+
+-- what `run` means
+abbrev pub run_meaning : (program image out : List ℕ) → (age : ℕ) → Meaning
+run_meaning program image out age = record (of_both program image false (λ source. CanBeCompiled source age) (run_answers age)) {
+  out = Some out;
+  creation = created_streaming age program image;
+  stored = λ result files left bytes. IsStoredRun result age (bytes_of files program) (bytes_of files image) left bytes;
+  notes = noted_at_done (λ files. NotesFrames age (bytes_of files program) (bytes_of files image));
+}

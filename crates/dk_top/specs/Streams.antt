@@ -15,16 +15,16 @@ use Rattle.row_stream.specs.Whole.{LeavesAll, Leaves}
 use Rattle.dk_endings.specs.declared.ending.Ending.{Ending}
 use Rattle.dk_endings.specs.declared.ending.Ending.TheVariants as ending
 use Rattle.dk_endings.specs.declared.ending.ImageFault.TheVariants as image
-use Rattle.dk_top.specs.Output.{output_file}
-use Rattle.dk_top.specs.Verdict.{bytes_of, run_terms, IsRunAnswer, IsAnswer, IsGoodPair, OfPair}
-use Rattle.dk_top.specs.Streaming.{ReadsRun}
+use Rattle.dk_top.specs.Output.{output_file, run_terms, IsAnswer, IsGoodPair, OfPair}
+use Rattle.dk_top.specs.Streaming.{ReadsRun, IsRunAnswer, CreatesRun, IsStoredRun, NotedRun}
 use Rattle.pgm_rounds.specs.declared.round.Round.{Round}
 use Rattle.dk_compile.specs.declared.compiling.Compiled.{Compiled}
 use Rattle.dk_top.specs.Compiling.{IsCompiledFrom, NotesRun}
 use Rattle.dk_top.specs.Reading.{IsInputOf, OfFile, NotesOnly, ReadsAndNotes, Stops, TellsRead}
 use Rattle.dk_top.specs.Command.{run}
-use Rattle.dk_top.specs.State.{CreatesNothing, OthersStay, HasOwnFile, CreatesRun, IsStoredRun, NotedRun}
+use Rattle.dk_top.specs.State.{CreatesNothing, OthersStay, HasOwnFile}
 use Rattle.dk_top.specs.Performing.{ReportsRead, ReportsWrite}
+use Rattle.dk_top.specs.Meaning.{bytes_of}
 use Rattle.dk_top.specs.declared.commands.running.Machine.{Machine}
 
 -- what the stream leaves, by the ending

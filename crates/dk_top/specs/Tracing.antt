@@ -1,5 +1,5 @@
 -- What `trace` judges, and what it writes: the trace of the module's run over all clocks.
-use Rattle.std.specs.Prelude.{◌≡◌, ℕ, ◌+◌, ◌<◌, ◌≤◌, ℤ, List, [], ◌∷◌, ◌++◌, length, take, None, ⊤}
+use Rattle.std.specs.Prelude.{◌≡◌, ℕ, ◌+◌, ◌<◌, ◌≤◌, ℤ, true, List, [], ◌∷◌, ◌++◌, length, take, None, Some, ⊤}
 use Rattle.dk_base.specs.Frames.{Size}
 use Rattle.wiring.specs.Snapshot.{Contents, Snapshot, HasOneSnapshot, HasOneNext}
 use Rattle.wiring.specs.Runs.{Runs}
@@ -18,7 +18,11 @@ use Rattle.trace_bench.specs.Traces.{values_of, trace_front}
 use Rattle.dk_words.specs.declared.command.PowerUp.TheVariants.{Zeros}
 use Rattle.dk_endings.specs.declared.ending.Ending.{Ending}
 use Rattle.dk_endings.specs.declared.ending.Ending.TheVariants as ending
-use Rattle.dk_top.specs.Simulation.{drive_of, IsModuleOf, FitsModule, IsVerilogFault, IsUnfit, IsStopped}
+use Rattle.dk_top.specs.Simulation.{drive_of, HasModule, IsModuleOf, FitsModule, IsVerilogFault, IsUnfit, IsStopped}
+use Rattle.stimulus.specs.declared.stop.Stop.{Stop}
+use Rattle.dk_desk.specs.declared.Stage.{Stage}
+use Rattle.dk_desk.specs.declared.Stage.TheVariants.{Open}
+use Rattle.dk_top.specs.Meaning.{bytes_of, Answers, faultless, IsAnswered, created_before_run, Meaning, of_both}
 
 -- how the command's words drive a module: from zeros, with no clock held
 abbrev pub trace_drive : (clocks : ℕ) → Drive
@@ -46,20 +50,22 @@ pub record IsTraced (drive : Drive) (text file : List ℕ) (m : NamedNetlist) (s
 abbrev pub CanBeTraced : Drive → (text file : List ℕ) → Type 0
 CanBeTraced drive text file = (m : NamedNetlist) × (shots : List Snapshot) × IsTraced drive text file m shots
 
--- When each ending comes. Of a failed read and of out of memory the files say nothing, and the counts of pictures are not judged.
+-- why the run of a module goes not to its end: a read in a clock whose index is not there; the counts of pictures are not judged
+abbrev pub IsTraceStop : Drive → (text file : List ℕ) → Stop → Type 0
+IsTraceStop drive text file (Index clock array index) = IsStopped drive text file (Index clock array index)
+IsTraceStop drive text file (Count shown wanted) = ⊥
+
+-- when each ending comes
+abbrev pub trace_answers : Drive → (text file : List ℕ) → Answers
+trace_answers drive text file = record (faultless (CanBeTraced drive text file)) {
+  write = AreInOrder drive text file;
+  verilog = IsVerilogFault drive.hold text;
+  image = IsUnfit drive text file;
+  stopped = IsTraceStop drive text file;
+}
+
 abbrev pub IsTraceAnswer : Drive → (text file : List ℕ) → Ending → Type 0
-IsTraceAnswer drive text file ending.Done = CanBeTraced drive text file
-IsTraceAnswer drive text file ending.WriteFault = AreInOrder drive text file
-IsTraceAnswer drive text file (ending.Verilog fault) = IsVerilogFault drive.hold text fault
-IsTraceAnswer drive text file (ending.Image fault) = IsUnfit drive text file fault
-IsTraceAnswer drive text file (ending.Stopped (Index clock array index)) = IsStopped drive text file (Index clock array index)
-IsTraceAnswer drive text file (ending.Stopped (Count shown wanted)) = ⊥
-IsTraceAnswer drive text file (ending.Source fault) = ⊥
-IsTraceAnswer drive text file (ending.Rejected fault) = ⊥
-IsTraceAnswer drive text file (ending.Unable fault) = ⊥
-IsTraceAnswer drive text file ending.Usage = ⊥
-IsTraceAnswer drive text file ending.ReadFault = ⊤
-IsTraceAnswer drive text file ending.Memory = ⊤
+IsTraceAnswer drive text file result = IsAnswered (trace_answers drive text file) result
 
 -- the whole trace of the run
 pub record HoldsTrace (drive : Drive) (text file bytes : List ℕ) : Type 0 where
@@ -116,3 +122,16 @@ IsStoredTrace ending.Done drive text file bytes = HoldsTrace drive text file byt
 IsStoredTrace (ending.Stopped (Index clock array index)) drive text file bytes = HoldsToStop drive text file clock array index bytes
 IsStoredTrace ending.WriteFault drive text file bytes = HoldsCut drive text file bytes
 IsStoredTrace _ drive text file bytes = ⊤
+
+-- `trace` has created its file before the run that stops.
+abbrev pub CreatesTrace : Ending → Stage → Type 0
+CreatesTrace (ending.Stopped stop) stage = stage ≡ Open
+CreatesTrace _ stage = ⊤
+
+-- what `trace` means
+abbrev pub trace_meaning : (verilog : List ℕ) → (clocks : ℕ) → (image vcd : List ℕ) → Meaning
+trace_meaning verilog clocks image vcd = record (of_both verilog image true (HasModule None) (trace_answers (trace_drive clocks))) {
+  out = Some vcd;
+  creation = created_before_run;
+  stored = λ result files left bytes. IsStoredTrace result (trace_drive clocks) (bytes_of files verilog) (bytes_of files image) bytes;
+}

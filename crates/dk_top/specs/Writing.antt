@@ -5,9 +5,10 @@ use Rattle.dk_desk.specs.Outside.{Outside}
 use Rattle.dk_desk.specs.Calls.{HasCauseIn, IsIfTold, CreatesOnly, grown}
 use Rattle.dk_endings.specs.declared.ending.Ending.{Ending}
 use Rattle.dk_endings.specs.declared.ending.Ending.TheVariants as ending
-use Rattle.dk_top.specs.State.{IsPrefix, OthersStay, HasOwnFile, ReportsFront}
+use Rattle.dk_top.specs.State.{OthersStay, HasOwnFile}
 use Rattle.dk_top.specs.Performing.{AllStay}
 use Rattle.dk_top.specs.Reading.{WritesReport, WritesBoth, EndsInLine}
+use Rattle.dk_top.specs.Texts.{IsPrefix, ReportsFront}
 
 -- File is created under this name and holds these bytes, or a prefix of them if a write failed. Nothing else is changed.
 pub record WritesFile {A : Type 0} (out bytes : List ℕ) (result : Result A Ending) (old new : Outside) : Type 0 where

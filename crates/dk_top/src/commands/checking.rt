@@ -3,8 +3,7 @@
 ghost use Rattle.std.specs.Prelude.{◌≡◌, ◌≢◌, ◌≤◌, ℕ, List, ⊤, Err, IfOk, IfErr, length};
 ghost use Rattle.dk_top.specs.Command.{check as check_command};
 ghost use Rattle.dk_compile.specs.Sources.{IsSourceFault};
-ghost use Rattle.dk_top.specs.Reports.{IsChecked};
-ghost use Rattle.dk_top.specs.Verdict.{IsCheckAnswer};
+ghost use Rattle.dk_top.specs.Reports.{IsChecked, IsCheckAnswer};
 ghost use Rattle.dk_top.specs.State.{IsFresh};
 ghost use Rattle.dk_top.specs.Reading.{ReadsBoth, IsJudgement, IsSourceEnding};
 ghost use Rattle.dk_top.specs.Reporting.{HasFront, HasProgram, IsReportEnding, OfFront};

@@ -3,9 +3,8 @@
 ghost use Rattle.std.specs.Prelude.{◌≡◌, ◌≢◌, ℕ, List, Err, IfOk, IfErr};
 ghost use Rattle.dk_compile.specs.Limits.{IsFaultAt};
 ghost use Rattle.dk_top.specs.Command.{eval as eval_command};
-ghost use Rattle.dk_top.specs.Output.{output_file};
+ghost use Rattle.dk_top.specs.Output.{output_file, eval_terms, IsAnswer, OfPair};
 ghost use Rattle.dk_top.specs.Program.{CanBeCompiled};
-ghost use Rattle.dk_top.specs.Verdict.{eval_terms, IsAnswer, OfPair};
 ghost use Rattle.dk_top.specs.State.{IsFresh};
 ghost use Rattle.dk_top.specs.Reading.{AreRead, IsFormAt, IsRead, IsSourceEnding, ReadsBoth};
 

@@ -4,8 +4,7 @@ ghost use Rattle.std.specs.Prelude.{◌≡◌, ◌≢◌, Err, IfOk, IfErr, OnOk
 ghost use Rattle.dk_words.specs.declared.command.Rewriting.TheVariants.{Widen};
 ghost use Rattle.dk_compile.specs.Widened.{IsWidenErrorBy};
 ghost use Rattle.dk_top.specs.Command.{rewrite as rewrite_command, IsRewriting};
-ghost use Rattle.dk_top.specs.Verdict.{CanBeRewritten};
-ghost use Rattle.dk_top.specs.Rewriting.{IsRewriteOf, AreRewriteLines};
+ghost use Rattle.dk_top.specs.Rewriting.{IsRewriteOf, AreRewriteLines, CanBeRewritten};
 ghost use Rattle.dk_top.specs.Reading.{Stops, IsRewriteEnding};
 ghost use Rattle.dk_top.specs.Unread.{unread_rewrite};
 ghost use Rattle.dk_top.specs.Writing.{WritesLines};

@@ -6,9 +6,9 @@ ghost use Rattle.dk_base.specs.FrameSizes.{size_of};
 ghost use Rattle.cycle_sim.specs.Ports.{din_widths};
 ghost use Rattle.stimulus.specs.Given.{AreBenchFrames};
 ghost use Rattle.dk_top.specs.Command.{sim as sim_command};
-ghost use Rattle.dk_top.specs.Simulation.{drive_of, fill_of as fill_named, IsModuleOf};
+ghost use Rattle.dk_top.specs.Simulation.{drive_of, fill_of as fill_named, IsModuleOf, HasModule};
 ghost use Rattle.dk_top.specs.State.{IsFresh};
-ghost use Rattle.dk_top.specs.Simulating.{IsModuleEnding, IsFileEnding, IsInput, IsInputRefusal, IsSimInput, HasModule, HasBenchFrames, CanDrive, ShowsPictures};
+ghost use Rattle.dk_top.specs.Simulating.{IsModuleEnding, IsFileEnding, IsInput, IsInputRefusal, IsSimInput, HasBenchFrames, CanDrive, ShowsPictures};
 ghost use Rattle.dk_top.specs.Reading.{ReadsBoth, IsJudgement, Stops};
 
 use crate::files::write_file;

@@ -6,8 +6,7 @@ use Rattle.source_fault.specs.declared.fault.SourceFault.TheVariants as source
 use Rattle.dk_endings.specs.declared.ending.Ending.TheVariants as ending
 use Rattle.dk_endings.specs.declared.ending.ReportFault.TheVariants as report
 use Rattle.dk_compile.specs.Sources.{IsSourceFault}
-use Rattle.dk_top.specs.Reports.{IsChecked}
-use Rattle.dk_top.specs.Verdict.{IsCheckAnswer}
+use Rattle.dk_top.specs.Reports.{IsChecked, IsCheckAnswer}
 use Rattle.dk_top.specs.Reading.{ReadsBoth}
 use Rattle.dk_top.specs.Reporting.{HasProgram}
 use Rattle.dk_top.proofs.LongLemmas.{short_source}

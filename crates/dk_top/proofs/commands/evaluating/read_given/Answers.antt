@@ -7,8 +7,8 @@ use Rattle.dk_endings.specs.declared.ending.ImageFault.TheVariants as image
 use Rattle.dk_compile.specs.Limits.{IsFaultAt}
 use Rattle.dk_top.specs.declared.commands.evaluating.Given.{Given}
 use Rattle.dk_top.specs.Program.{CanBeCompiled}
-use Rattle.dk_top.specs.Verdict.{eval_terms, IsAnswer}
 use Rattle.dk_top.specs.Reading.{AreRead, IsRead, ReadsBoth}
+use Rattle.dk_top.specs.Output.{eval_terms, IsAnswer}
 use Rattle.dk_top.proofs.LongLemmas.{short_source}
 use Rattle.dk_top.proofs.ReadLemmas.{misfit_answer, refused_answer, pair_read}
 use Rattle.dk_top.proofs.WholeLemmas.{EndsSecond, lifted, both_refused, second_unread, both_judged}

@@ -1,7 +1,8 @@
 use Rattle.std.proofs.Common.{◌≡◌, ap, IfSome, OnErr, rules}
 use Rattle.dk_desk.specs.declared.Stage.TheVariants.{Open}
 use Rattle.dk_desk.specs.Outside.{Outside}
-use Rattle.dk_top.specs.State.{IsPrefix, HasOwnFile}
+use Rattle.dk_top.specs.State.{HasOwnFile}
+use Rattle.dk_top.specs.Texts.{IsPrefix}
 use Rattle.dk_top.proofs.RewriteLemmas.{stays_prefix}
 use Rattle.dk_top.proofs.FileLemmas.{own_stays}
 use Rattle.dk_top.proofs.commands.rewriting.write_both.Goals as goal

@@ -7,11 +7,11 @@ use Rattle.dk_desk.specs.Outside.{Outside}
 use Rattle.dk_endings.specs.declared.ending.Ending.{Ending}
 use Rattle.dk_endings.specs.declared.ending.Ending.TheVariants as ending
 use Rattle.pgm_rounds.specs.declared.round.Round.{Round}
-use Rattle.dk_top.specs.Output.{output_file}
+use Rattle.dk_top.specs.Output.{output_file, run_terms, OfPair}
 use Rattle.dk_top.specs.Compiling.{NotesRun}
 use Rattle.dk_top.specs.Reading.{IsInputOf, IsImageEnding}
 use Rattle.dk_top.specs.Streams.{ClocksFile}
-use Rattle.dk_top.specs.Verdict.{run_terms, bytes_of, OfPair}
+use Rattle.dk_top.specs.Meaning.{bytes_of}
 use Rattle.dk_top.proofs.LongLemmas.{judgement_stops}
 use Rattle.dk_top.proofs.RunLemmas.{unfit_from, good_from, input_from}
 use Rattle.dk_top.proofs.WholeLemmas.{lifted, unlimited, told_map, unread_stops, handed, quiet, read_count, judged_apart}

@@ -1,8 +1,8 @@
 use Rattle.std.proofs.Common.{◌≡◌, ℕ, true, false, List, Err, IfSome, refl, sym, ap, subst}
 use Rattle.dk_desk.specs.Outside.{Outside}
 use Rattle.dk_endings.specs.declared.ending.Ending.TheVariants as ending
-use Rattle.dk_top.specs.State.{IsPrefix}
 use Rattle.dk_top.specs.Streams.{RunsMachine}
+use Rattle.dk_top.specs.Texts.{IsPrefix}
 use Rattle.dk_top.proofs.EndingLemmas.{at_error, at_fault}
 use Rattle.dk_top.proofs.RunLemmas.{cause_as, ok_apart, rounds_stop, rounds_done, rounds_write}
 use Rattle.dk_top.proofs.commands.running.run_rounds.Goals as goal

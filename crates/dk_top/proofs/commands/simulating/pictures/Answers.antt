@@ -8,9 +8,7 @@ use Rattle.stimulus.specs.Given.{rounds_of}
 use Rattle.stimulus.specs.Showing.{IsShown, IsNoted as AreNotes}
 use Rattle.stimulus.specs.Stops.{IsBenchEnd}
 use Rattle.dk_top.specs.Simulating.{OfInput}
-use Rattle.dk_top.specs.Simulation.{IsSimulated}
-use Rattle.dk_top.specs.State.{NotesSim}
-use Rattle.dk_top.specs.Verdict.{IsSimAnswer}
+use Rattle.dk_top.specs.Simulation.{IsSimulated, NotesSim, IsSimAnswer}
 use Rattle.dk_top.proofs.SimReads.{shown_of, one_shown, notes_of_run, stopped_of}
 use Rattle.dk_top.proofs.commands.simulating.pictures.Goals as goal
 

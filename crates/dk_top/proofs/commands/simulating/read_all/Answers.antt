@@ -6,7 +6,8 @@ use Rattle.dk_endings.specs.declared.ending.ImageFault.TheVariants as image
 use Rattle.dk_endings.specs.declared.verilog.VerilogFault.TheVariants as verilog
 use Rattle.dk_top.specs.declared.commands.simulating.SimInput.{SimInput}
 use Rattle.dk_top.specs.Reading.{ReadsBoth}
-use Rattle.dk_top.specs.Simulating.{IsSimInput, IsInputRefusal, HasModule, HasBenchFrames}
+use Rattle.dk_top.specs.Simulating.{IsSimInput, IsInputRefusal, HasBenchFrames}
+use Rattle.dk_top.specs.Simulation.{HasModule}
 use Rattle.dk_top.proofs.LongLemmas.{judgement_stops, short_module}
 use Rattle.dk_top.proofs.SimReads.{file_refused, module_refused}
 use Rattle.dk_top.proofs.WholeLemmas.{EndsSecond, lifted, both_refused, second_unread, both_judged}

@@ -2,8 +2,8 @@ use Rattle.std.proofs.Common.{◌≡◌, Some, subst, IfSome, rules}
 use Rattle.dk_desk.specs.Outside.{Outside}
 use Rattle.dk_endings.specs.declared.ending.Ending.TheVariants as ending
 use Rattle.dk_top.specs.Command.{compile as compile_command}
-use Rattle.dk_top.specs.State.{IsPrefix}
 use Rattle.dk_top.specs.Performing.{PerformsWork, HasStored}
+use Rattle.dk_top.specs.Texts.{IsPrefix}
 use Rattle.dk_top.proofs.EndingLemmas.{at_fault}
 use Rattle.dk_top.proofs.CompileLemmas.{text_stored, block_low}
 use Rattle.dk_top.proofs.commands.compiling.CompileWordsWork.perform.Goals as goal
@@ -18,24 +18,18 @@ returns-in_err-write_file g c =
     (subst (λ bytes. IfSome new.file.bytes (λ written. IsPrefix written bytes)) c.deref.ensures.value (c.in_err-write_file.ensures.prefix opened)) in
     at_fault (λ e. PerformsWork (compile_command w.program.now w.out.now w.enable w.age w.block) e old new) c.from_residual-in_err-write_file.result c.in_err-write_file.field-0.0 c.from_residual-in_err-write_file.ensures.1 c.in_err-write_file.ensures.fault (record {
       taken = search rules;
-      verdict = search rules;
-      read_fault = search rules;
-      write_fault = search rules;
-      asked = search rules;
-      order = search rules;
-      too_long = search rules;
-      created = search rules;
-      begun = search rules;
-      reads = search rules;
-      written = search rules;
-      output = output;
-      files = search rules;
-      files_stay = search rules;
-      own = search rules;
-      report = search rules;
-      report_stays = search rules;
-      notes = search rules;
-      notes_stay = search rules;
+      ends = search rules;
+      asks = search rules;
+      file = record {
+        created = search rules;
+        begun = search rules;
+        written = search rules;
+        output = output;
+        files = search rules;
+        files_stay = search rules;
+        own = search rules;
+      };
+      tells = search rules;
       fault = search rules;
       fault_count = search rules;
     })
@@ -50,24 +44,18 @@ returns g c =
     (subst (λ bytes. IfSome new.file.bytes (λ written. written ≡ bytes)) c.deref.ensures.value c.in_ok-write_file.ensures.whole) in
     record {
       taken = search rules;
-      verdict = search rules;
-      read_fault = search rules;
-      write_fault = search rules;
-      asked = search rules;
-      order = search rules;
-      too_long = search rules;
-      created = search rules;
-      begun = search rules;
-      reads = search rules;
-      written = search rules;
-      output = output;
-      files = search rules;
-      files_stay = search rules;
-      own = search rules;
-      report = search rules;
-      report_stays = search rules;
-      notes = search rules;
-      notes_stay = search rules;
+      ends = search rules;
+      asks = search rules;
+      file = record {
+        created = search rules;
+        begun = search rules;
+        written = search rules;
+        output = output;
+        files = search rules;
+        files_stay = search rules;
+        own = search rules;
+      };
+      tells = search rules;
       fault = search rules;
       fault_count = search rules;
     }

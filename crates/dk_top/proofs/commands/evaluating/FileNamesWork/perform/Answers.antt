@@ -2,10 +2,9 @@ use Rattle.std.proofs.Common.{◌≡◌, Some, subst, IfSome, rules}
 use Rattle.dk_desk.specs.Outside.{Outside}
 use Rattle.dk_endings.specs.declared.ending.Ending.TheVariants as ending
 use Rattle.dk_top.specs.Command.{eval as eval_command}
-use Rattle.dk_top.specs.Output.{output_file}
+use Rattle.dk_top.specs.Output.{output_file, eval_terms, OfPair}
 use Rattle.dk_top.specs.Performing.{PerformsWork, EndsRight, HasStored}
-use Rattle.dk_top.specs.State.{IsPrefix}
-use Rattle.dk_top.specs.Verdict.{eval_terms, OfPair}
+use Rattle.dk_top.specs.Texts.{IsPrefix}
 use Rattle.dk_top.proofs.CommandLemmas.{stored_told, read_pair}
 use Rattle.dk_top.proofs.EndingLemmas.{at_error, at_fault}
 use Rattle.dk_top.proofs.ReadLemmas.{read_good}
@@ -18,24 +17,10 @@ returns-in_err-given g c =
     let new : Outside = g.D.Desk.outside c.read_given.new.desk in
     at_error (λ e. PerformsWork (eval_command w.program.now w.image.now w.out.now) e old new) c.from_residual.result c.in_err-given.field-0.0 c.from_residual.ensures.1 (record {
       taken = search rules;
-      verdict = search rules;
-      read_fault = search rules;
-      write_fault = search rules;
-      asked = search rules;
-      order = search rules;
-      too_long = search rules;
-      created = search rules;
-      begun = search rules;
-      reads = search rules;
-      written = search rules;
-      output = search rules;
-      files = search rules;
-      files_stay = search rules;
-      own = search rules;
-      report = search rules;
-      report_stays = search rules;
-      notes = search rules;
-      notes_stay = search rules;
+      ends = search rules;
+      asks = search rules;
+      file = search rules;
+      tells = search rules;
       fault = search rules;
       fault_count = search rules;
     })

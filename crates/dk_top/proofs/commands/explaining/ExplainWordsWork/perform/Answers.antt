@@ -5,10 +5,10 @@ use Rattle.dk_endings.specs.declared.ending.Ending.TheVariants as ending
 use Rattle.dk_top.specs.declared.commands.explaining.Judged.{Judged}
 use Rattle.dk_top.specs.declared.commands.explaining.Judged.TheVariants.{Refused}
 use Rattle.dk_top.specs.Command.{explain as explain_command}
-use Rattle.dk_top.specs.State.{ReportsFront}
 use Rattle.dk_top.specs.Reading.{OfFile}
 use Rattle.dk_top.specs.Refusals.{IsJudgedAs, LeavesJudged}
 use Rattle.dk_top.specs.Performing.{PerformsWork, HasReported}
+use Rattle.dk_top.specs.Texts.{ReportsFront}
 use Rattle.dk_top.proofs.EndingLemmas.{at_fault}
 use Rattle.dk_top.proofs.ExplainLemmas.{explained_front, explained_whole, explained_faulty}
 use Rattle.dk_top.proofs.commands.explaining.ExplainWordsWork.perform.Goals as goal
@@ -27,24 +27,19 @@ returns-in_err-write_report g c =
     (subst (λ r. ReportsFront c.deref.result.now r new.report) before c.in_err-write_report.ensures.front)) in
     at_fault (λ e. PerformsWork (explain_command name) e old new) c.from_residual-in_err-write_report.result c.in_err-write_report.field-0.0 c.from_residual-in_err-write_report.ensures.1 c.in_err-write_report.ensures.fault (record {
       taken = search (rules, judged);
-      verdict = explained_faulty _ name c.in-Refused.refusal judged;
-      read_fault = search (rules, judged);
-      write_fault = search (rules, judged);
-      asked = search (rules, judged);
-      order = search (rules, judged);
-      too_long = search (rules, judged);
-      created = search (rules, judged);
-      begun = search (rules, judged);
-      reads = search (rules, judged);
-      written = search (rules, judged);
-      output = search (rules, judged);
-      files = search (rules, judged);
-      files_stay = search (rules, judged);
-      own = search (rules, judged);
-      report = report;
-      report_stays = search (rules, judged);
-      notes = search (rules, judged);
-      notes_stay = search (rules, judged);
+      ends = record {
+        verdict = explained_faulty _ name c.in-Refused.refusal judged;
+        read_fault = search (rules, judged);
+        write_fault = search (rules, judged);
+      };
+      asks = search (rules, judged);
+      file = search (rules, judged);
+      tells = record {
+        report = report;
+        report_stays = search (rules, judged);
+        notes = search (rules, judged);
+        notes_stay = search (rules, judged);
+      };
       fault = search (rules, judged);
       fault_count = search (rules, judged);
     })
@@ -61,26 +56,17 @@ returns g c =
     let before : mid.report ≡ old.report = ap (λ (o : Outside). o.report) c.in_ok-refusal.ensures.only in
     record {
       taken = search (rules, judged, left);
-      verdict = search (rules, judged, left);
-      read_fault = search (rules, judged, left);
-      write_fault = search (rules, judged, left);
-      asked = search (rules, judged, left);
-      order = search (rules, judged, left);
-      too_long = search (rules, judged, left);
-      created = search (rules, judged, left);
-      begun = search (rules, judged, left);
-      reads = search (rules, judged, left);
-      written = search (rules, judged, left);
-      output = search (rules, judged, left);
-      files = search (rules, judged, left);
-      files_stay = search (rules, judged, left);
-      own = search (rules, judged, left);
-      report = explained_whole _ name c.in-Refused.refusal _ _ judged
-          (subst (λ t. IsIfTold new.report (grown old.report t)) c.deref.ensures.value
-          (subst (λ r. IsIfTold new.report (grown r c.deref.result.now)) before c.in_ok-write_report.ensures.whole));
-      report_stays = search (rules, judged, left);
-      notes = search (rules, judged, left);
-      notes_stay = search (rules, judged, left);
+      ends = search (rules, judged, left);
+      asks = search (rules, judged, left);
+      file = search (rules, judged, left);
+      tells = record {
+        report = explained_whole _ name c.in-Refused.refusal _ _ judged
+            (subst (λ t. IsIfTold new.report (grown old.report t)) c.deref.ensures.value
+            (subst (λ r. IsIfTold new.report (grown r c.deref.result.now)) before c.in_ok-write_report.ensures.whole));
+        report_stays = search (rules, judged, left);
+        notes = search (rules, judged, left);
+        notes_stay = search (rules, judged, left);
+      };
       fault = search (rules, judged, left);
       fault_count = search (rules, judged, left);
     }

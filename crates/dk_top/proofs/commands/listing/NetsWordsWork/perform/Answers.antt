@@ -3,8 +3,8 @@ use Rattle.dk_desk.specs.Calls.{IsIfTold, grown}
 use Rattle.dk_desk.specs.Outside.{Outside}
 use Rattle.dk_endings.specs.declared.ending.Ending.TheVariants as ending
 use Rattle.dk_top.specs.Command.{nets as nets_command}
-use Rattle.dk_top.specs.State.{ReportsFront}
 use Rattle.dk_top.specs.Performing.{PerformsWork, HasReported}
+use Rattle.dk_top.specs.Texts.{ReportsFront}
 use Rattle.dk_top.proofs.EndingLemmas.{at_fault}
 use Rattle.dk_top.proofs.CompileLemmas.{block_low}
 use Rattle.dk_top.proofs.ReportLemmas.{nets_whole, nets_front}
@@ -23,24 +23,15 @@ returns-in_err-write_report g c =
     (subst (λ r. ReportsFront c.deref.result.now r new.report) before c.in_err-write_report.ensures.front)) in
     at_fault (λ e. PerformsWork (nets_command w.program.now w.enable w.age w.block) e old new) c.from_residual-in_err-write_report.result c.in_err-write_report.field-0.0 c.from_residual-in_err-write_report.ensures.1 c.in_err-write_report.ensures.fault (record {
       taken = search rules;
-      verdict = search rules;
-      read_fault = search rules;
-      write_fault = search rules;
-      asked = search rules;
-      order = search rules;
-      too_long = search rules;
-      created = search rules;
-      begun = search rules;
-      reads = search rules;
-      written = search rules;
-      output = search rules;
-      files = search rules;
-      files_stay = search rules;
-      own = search rules;
-      report = report;
-      report_stays = search rules;
-      notes = search rules;
-      notes_stay = search rules;
+      ends = search rules;
+      asks = search rules;
+      file = search rules;
+      tells = record {
+        report = report;
+        report_stays = search rules;
+        notes = search rules;
+        notes_stay = search rules;
+      };
       fault = search rules;
       fault_count = search rules;
     })
@@ -58,24 +49,15 @@ returns g c =
     (subst (λ r. IsIfTold new.report (grown r c.deref.result.now)) before c.in_ok-write_report.ensures.whole)) in
     record {
       taken = search rules;
-      verdict = search rules;
-      read_fault = search rules;
-      write_fault = search rules;
-      asked = search rules;
-      order = search rules;
-      too_long = search rules;
-      created = search rules;
-      begun = search rules;
-      reads = search rules;
-      written = search rules;
-      output = search rules;
-      files = search rules;
-      files_stay = search rules;
-      own = search rules;
-      report = report;
-      report_stays = search rules;
-      notes = search rules;
-      notes_stay = search rules;
+      ends = search rules;
+      asks = search rules;
+      file = search rules;
+      tells = record {
+        report = report;
+        report_stays = search rules;
+        notes = search rules;
+        notes_stay = search rules;
+      };
       fault = search rules;
       fault_count = search rules;
     }

@@ -4,7 +4,7 @@ use Rattle.dk_top.specs.Command.{run as run_command}
 use Rattle.dk_top.specs.Performing.{PerformsWork}
 use Rattle.dk_top.specs.Compiling.{IsCompiledFrom}
 use Rattle.dk_top.specs.Streams.{IsMachineOf, RunsMachine}
-use Rattle.dk_top.specs.Verdict.{bytes_of}
+use Rattle.dk_top.specs.Meaning.{bytes_of}
 use Rattle.dk_top.proofs.EndingLemmas.{at_error, ending_as}
 use Rattle.dk_top.proofs.RunLemmas.{ok_apart, same_count, performs_on}
 use Rattle.dk_top.proofs.WholeLemmas.{told_map}
@@ -17,24 +17,10 @@ returns-in_err-machine g c =
     let new : Outside = g.D.Desk.outside c.read_with.new.desk in
     at_error (λ e. PerformsWork (run_command w.program.now w.image.now w.out.now w.age) e old new) c.from_residual.result c.in_err-machine.field-0.0 c.from_residual.ensures.1 (record {
       taken = search rules;
-      verdict = search rules;
-      read_fault = search rules;
-      write_fault = search rules;
-      asked = search rules;
-      order = search rules;
-      too_long = search rules;
-      created = search rules;
-      begun = search rules;
-      reads = search rules;
-      written = search rules;
-      output = search rules;
-      files = search rules;
-      files_stay = search rules;
-      own = search rules;
-      report = search rules;
-      report_stays = search rules;
-      notes = search rules;
-      notes_stay = search rules;
+      ends = search rules;
+      asks = search rules;
+      file = search rules;
+      tells = search rules;
       fault = search rules;
       fault_count = search rules;
     })

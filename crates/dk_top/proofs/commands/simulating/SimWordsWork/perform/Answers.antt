@@ -7,10 +7,11 @@ use Rattle.stimulus.specs.declared.drive.Drive.{Drive}
 use Rattle.dk_endings.specs.declared.ending.Ending.{Ending}
 use Rattle.dk_endings.specs.declared.ending.Ending.TheVariants as ending
 use Rattle.dk_top.specs.Command.{sim as sim_command}
-use Rattle.dk_top.specs.Simulation.{drive_of}
-use Rattle.dk_top.specs.Verdict.{IsSimAnswer, bytes_of}
+use Rattle.dk_top.specs.Simulation.{drive_of, IsSimAnswer, NotesSim}
 use Rattle.dk_top.specs.Performing.{PerformsWork, EndsRight, LeavesRestOf, HasStored, HasNoted, AsksAfter}
-use Rattle.dk_top.specs.State.{IsPrefix, NotesSim, AsksWhereModule, FilesStay, IsReported, IsNoted}
+use Rattle.dk_top.specs.State.{AsksWhereModule, FilesStay, IsReported, IsNoted}
+use Rattle.dk_top.specs.Meaning.{bytes_of}
+use Rattle.dk_top.specs.Texts.{IsPrefix}
 use Rattle.dk_top.proofs.EndingLemmas.{at_error, at_fault}
 use Rattle.dk_top.proofs.SimReads.{for_clocks, of_input, stored_sim, sim_notes}
 use Rattle.dk_top.proofs.LongLemmas.{no_text, no_images, both_left}
@@ -28,24 +29,14 @@ returns-in_err-given g c =
     let verdict : EndsRight (Some (sim_command w.verilog.now w.clocks w.image.now w.out.now w.fill w.hold)) e old = for_clocks _ w.verilog.now w.image.now w.clocks w.fill w.hold e c.in_err-given.ensures.fault in
     at_error (λ e. PerformsWork (sim_command w.verilog.now w.clocks w.image.now w.out.now w.fill w.hold) e old new) c.from_residual.result c.in_err-given.field-0.0 c.from_residual.ensures.1 (record {
       taken = search rules;
-      verdict = verdict;
-      read_fault = search rules;
-      write_fault = search rules;
-      asked = search rules;
-      order = search rules;
-      too_long = search rules;
-      created = search rules;
-      begun = search rules;
-      reads = search rules;
-      written = search rules;
-      output = search rules;
-      files = search rules;
-      files_stay = search rules;
-      own = search rules;
-      report = search rules;
-      report_stays = search rules;
-      notes = search rules;
-      notes_stay = search rules;
+      ends = record {
+        verdict = verdict;
+        read_fault = search rules;
+        write_fault = search rules;
+      };
+      asks = search rules;
+      file = search rules;
+      tells = search rules;
       fault = search rules;
       fault_count = search rules;
     })
@@ -70,28 +61,36 @@ returns-in_err-output g c =
     let report : new.report ≡ old.report = ap (λ (o : Outside). o.report) drawn ∙ ap (λ (o : Outside). o.report) c.in_ok-given.ensures.only in
     at_error (λ e. PerformsWork (sim_command w.verilog.now w.clocks w.image.now w.out.now w.fill w.hold) e old new) c.from_residual-in_err-output.result c.in_err-output.field-0.0 c.from_residual-in_err-output.ensures.1 (record {
       taken = search rules;
-      verdict = verdict;
-      read_fault = search rules;
-      write_fault = search rules;
-      asked = record {
-        program = subst (λ (i : Input). i.stage ≢ Unasked → IsIfTold i.name (Some w.verilog.now)) (sym (ap (λ (o : Outside). o.program) drawn)) c.in_ok-given.ensures.program_name;
-        image = subst (λ (i : Input). i.stage ≢ Unasked → IsIfTold i.name (Some w.image.now)) (sym (ap (λ (o : Outside). o.image) drawn)) c.in_ok-given.ensures.image_name;
-        file = λ asked. absurd (asked unasked);
+      ends = record {
+        verdict = verdict;
+        read_fault = search rules;
+        write_fault = search rules;
       };
-      order = order_stays (Some (sim_command w.verilog.now w.clocks w.image.now w.out.now w.fill w.hold)) old.files read new (ap (λ (o : Outside). o.image) drawn) c.in_ok-given.ensures.order;
-      too_long = too_long;
-      created = search rules;
-      begun = search rules;
-      reads = search rules;
-      written = search rules;
-      output = search rules;
-      files = subst (λ fs. FilesStay (Some (sim_command w.verilog.now w.clocks w.image.now w.out.now w.fill w.hold)) old.files fs) (sym files) (same_files (Some (sim_command w.verilog.now w.clocks w.image.now w.out.now w.fill w.hold)) old.files);
-      files_stay = search rules;
-      own = search rules;
-      report = on_all (sim_command w.verilog.now w.clocks w.image.now w.out.now w.fill w.hold) old.files (λ f. IsReported e (sim_command w.verilog.now w.clocks w.image.now w.out.now w.fill w.hold) f new.file.bytes old.report new.report) (λ f. report);
-      report_stays = search rules;
-      notes = on_all (sim_command w.verilog.now w.clocks w.image.now w.out.now w.fill w.hold) old.files (λ f. IsNoted (sim_command w.verilog.now w.clocks w.image.now w.out.now w.fill w.hold) e f old.notes new.notes) (λ f. sim_notes w.verilog.now w.clocks w.image.now w.out.now w.fill w.hold e c.in_err-output.ensures.stops f old.notes new.notes);
-      notes_stay = search rules;
+      asks = record {
+        asked = record {
+          program = subst (λ (i : Input). i.stage ≢ Unasked → IsIfTold i.name (Some w.verilog.now)) (sym (ap (λ (o : Outside). o.program) drawn)) c.in_ok-given.ensures.program_name;
+          image = subst (λ (i : Input). i.stage ≢ Unasked → IsIfTold i.name (Some w.image.now)) (sym (ap (λ (o : Outside). o.image) drawn)) c.in_ok-given.ensures.image_name;
+          file = λ asked. absurd (asked unasked);
+        };
+        order = order_stays (Some (sim_command w.verilog.now w.clocks w.image.now w.out.now w.fill w.hold)) old.files read new (ap (λ (o : Outside). o.image) drawn) c.in_ok-given.ensures.order;
+        too_long = too_long;
+        reads = search rules;
+      };
+      file = record {
+        created = search rules;
+        begun = search rules;
+        written = search rules;
+        output = search rules;
+        files = subst (λ fs. FilesStay (Some (sim_command w.verilog.now w.clocks w.image.now w.out.now w.fill w.hold)) old.files fs) (sym files) (same_files (Some (sim_command w.verilog.now w.clocks w.image.now w.out.now w.fill w.hold)) old.files);
+        files_stay = search rules;
+        own = search rules;
+      };
+      tells = record {
+        report = on_all (sim_command w.verilog.now w.clocks w.image.now w.out.now w.fill w.hold) old.files (λ f. IsReported e (sim_command w.verilog.now w.clocks w.image.now w.out.now w.fill w.hold) f new.file.bytes old.report new.report) (λ f. report);
+        report_stays = search rules;
+        notes = on_all (sim_command w.verilog.now w.clocks w.image.now w.out.now w.fill w.hold) old.files (λ f. IsNoted (sim_command w.verilog.now w.clocks w.image.now w.out.now w.fill w.hold) e f old.notes new.notes) (λ f. sim_notes w.verilog.now w.clocks w.image.now w.out.now w.fill w.hold e c.in_err-output.ensures.stops f old.notes new.notes);
+        notes_stay = search rules;
+      };
       fault = search rules;
       fault_count = search rules;
     })
@@ -118,28 +117,36 @@ returns-in_err-write_file g c =
     let report : new.report ≡ old.report = ap (λ (o : Outside). o.report) written ∙ (ap (λ (o : Outside). o.report) drew ∙ ap (λ (o : Outside). o.report) c.in_ok-given.ensures.only) in
     at_fault (λ e. PerformsWork (sim_command w.verilog.now w.clocks w.image.now w.out.now w.fill w.hold) e old new) c.from_residual-in_err-write_file.result c.in_err-write_file.field-0.0 c.from_residual-in_err-write_file.ensures.1 c.in_err-write_file.ensures.fault (record {
       taken = search rules;
-      verdict = verdict;
-      read_fault = search rules;
-      write_fault = search rules;
-      asked = record {
-        program = subst (λ (i : Input). i.stage ≢ Unasked → IsIfTold i.name (Some w.verilog.now)) (sym (ap (λ (o : Outside). o.program) written ∙ ap (λ (o : Outside). o.program) drew)) c.in_ok-given.ensures.program_name;
-        image = subst (λ (i : Input). i.stage ≢ Unasked → IsIfTold i.name (Some w.image.now)) (sym (ap (λ (o : Outside). o.image) written ∙ ap (λ (o : Outside). o.image) drew)) c.in_ok-given.ensures.image_name;
-        file = λ asked. c.in_err-write_file.ensures.name;
+      ends = record {
+        verdict = verdict;
+        read_fault = search rules;
+        write_fault = search rules;
       };
-      order = search rules;
-      too_long = search rules;
-      created = search rules;
-      begun = search rules;
-      reads = search rules;
-      written = search rules;
-      output = output;
-      files = stay_others w.out.now old.files drawn.files new.files files c.in_err-write_file.ensures.files;
-      files_stay = λ closed. c.in_err-write_file.ensures.files_stay closed ∙ files;
-      own = search rules;
-      report = on_all (sim_command w.verilog.now w.clocks w.image.now w.out.now w.fill w.hold) old.files (λ f. IsReported ending.WriteFault (sim_command w.verilog.now w.clocks w.image.now w.out.now w.fill w.hold) f new.file.bytes old.report new.report) (λ f. report);
-      report_stays = search rules;
-      notes = search rules;
-      notes_stay = search rules;
+      asks = record {
+        asked = record {
+          program = subst (λ (i : Input). i.stage ≢ Unasked → IsIfTold i.name (Some w.verilog.now)) (sym (ap (λ (o : Outside). o.program) written ∙ ap (λ (o : Outside). o.program) drew)) c.in_ok-given.ensures.program_name;
+          image = subst (λ (i : Input). i.stage ≢ Unasked → IsIfTold i.name (Some w.image.now)) (sym (ap (λ (o : Outside). o.image) written ∙ ap (λ (o : Outside). o.image) drew)) c.in_ok-given.ensures.image_name;
+          file = λ asked. c.in_err-write_file.ensures.name;
+        };
+        order = search rules;
+        too_long = search rules;
+        reads = search rules;
+      };
+      file = record {
+        created = search rules;
+        begun = search rules;
+        written = search rules;
+        output = output;
+        files = stay_others w.out.now old.files drawn.files new.files files c.in_err-write_file.ensures.files;
+        files_stay = λ closed. c.in_err-write_file.ensures.files_stay closed ∙ files;
+        own = search rules;
+      };
+      tells = record {
+        report = on_all (sim_command w.verilog.now w.clocks w.image.now w.out.now w.fill w.hold) old.files (λ f. IsReported ending.WriteFault (sim_command w.verilog.now w.clocks w.image.now w.out.now w.fill w.hold) f new.file.bytes old.report new.report) (λ f. report);
+        report_stays = search rules;
+        notes = search rules;
+        notes_stay = search rules;
+      };
       fault = search rules;
       fault_count = search rules;
     })
@@ -177,28 +184,36 @@ returns g c =
     let report : new.report ≡ old.report = ap (λ (o : Outside). o.report) written ∙ (ap (λ (o : Outside). o.report) drew ∙ ap (λ (o : Outside). o.report) c.in_ok-given.ensures.only) in
     record {
       taken = search rules;
-      verdict = verdict;
-      read_fault = search rules;
-      write_fault = search rules;
-      asked = record {
-        program = subst (λ (i : Input). i.stage ≢ Unasked → IsIfTold i.name (Some w.verilog.now)) (sym (ap (λ (o : Outside). o.program) written ∙ ap (λ (o : Outside). o.program) drew)) c.in_ok-given.ensures.program_name;
-        image = subst (λ (i : Input). i.stage ≢ Unasked → IsIfTold i.name (Some w.image.now)) (sym (ap (λ (o : Outside). o.image) written ∙ ap (λ (o : Outside). o.image) drew)) c.in_ok-given.ensures.image_name;
-        file = λ asked. c.in_ok-write_file.ensures.name;
+      ends = record {
+        verdict = verdict;
+        read_fault = search rules;
+        write_fault = search rules;
       };
-      order = order;
-      too_long = search rules;
-      created = search rules;
-      begun = search rules;
-      reads = search rules;
-      written = search rules;
-      output = output;
-      files = stay_others w.out.now old.files drawn.files new.files files c.in_ok-write_file.ensures.files;
-      files_stay = search rules;
-      own = search rules;
-      report = on_all (sim_command w.verilog.now w.clocks w.image.now w.out.now w.fill w.hold) old.files (λ f. IsReported ending.Done (sim_command w.verilog.now w.clocks w.image.now w.out.now w.fill w.hold) f new.file.bytes old.report new.report) (λ f. report);
-      report_stays = search rules;
-      notes = notes;
-      notes_stay = search rules;
+      asks = record {
+        asked = record {
+          program = subst (λ (i : Input). i.stage ≢ Unasked → IsIfTold i.name (Some w.verilog.now)) (sym (ap (λ (o : Outside). o.program) written ∙ ap (λ (o : Outside). o.program) drew)) c.in_ok-given.ensures.program_name;
+          image = subst (λ (i : Input). i.stage ≢ Unasked → IsIfTold i.name (Some w.image.now)) (sym (ap (λ (o : Outside). o.image) written ∙ ap (λ (o : Outside). o.image) drew)) c.in_ok-given.ensures.image_name;
+          file = λ asked. c.in_ok-write_file.ensures.name;
+        };
+        order = order;
+        too_long = search rules;
+        reads = search rules;
+      };
+      file = record {
+        created = search rules;
+        begun = search rules;
+        written = search rules;
+        output = output;
+        files = stay_others w.out.now old.files drawn.files new.files files c.in_ok-write_file.ensures.files;
+        files_stay = search rules;
+        own = search rules;
+      };
+      tells = record {
+        report = on_all (sim_command w.verilog.now w.clocks w.image.now w.out.now w.fill w.hold) old.files (λ f. IsReported ending.Done (sim_command w.verilog.now w.clocks w.image.now w.out.now w.fill w.hold) f new.file.bytes old.report new.report) (λ f. report);
+        report_stays = search rules;
+        notes = notes;
+        notes_stay = search rules;
+      };
       fault = search rules;
       fault_count = search rules;
     }

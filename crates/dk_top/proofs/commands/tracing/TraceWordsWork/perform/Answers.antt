@@ -27,24 +27,22 @@ returns-in_err-given g c =
     let begun : HasCreated (Some (trace_command w.verilog.now w.clocks w.image.now w.vcd.now)) e old new = unread_begun _ w.verilog.now w.image.now w.vcd.now w.clocks e _ c.in_err-given.ensures.fault in
     at_error (λ e. PerformsWork (trace_command w.verilog.now w.clocks w.image.now w.vcd.now) e old new) c.from_residual.result c.in_err-given.field-0.0 c.from_residual.ensures.1 (record {
       taken = search rules;
-      verdict = verdict;
-      read_fault = search rules;
-      write_fault = search rules;
-      asked = search rules;
-      order = search rules;
-      too_long = search rules;
-      created = search rules;
-      begun = begun;
-      reads = search rules;
-      written = search rules;
-      output = search rules;
-      files = search rules;
-      files_stay = search rules;
-      own = search rules;
-      report = search rules;
-      report_stays = search rules;
-      notes = search rules;
-      notes_stay = search rules;
+      ends = record {
+        verdict = verdict;
+        read_fault = search rules;
+        write_fault = search rules;
+      };
+      asks = search rules;
+      file = record {
+        created = search rules;
+        begun = begun;
+        written = search rules;
+        output = search rules;
+        files = search rules;
+        files_stay = search rules;
+        own = search rules;
+      };
+      tells = search rules;
       fault = search rules;
       fault_count = search rules;
     })
@@ -77,24 +75,32 @@ returns g c =
     both_left _ w.verilog.now w.image.now _ _ e (no_text _ w.verilog.now _ e t.no_text) (no_images _ w.image.now _ e t.no_images) in
     record {
       taken = search (rules, t);
-      verdict = verdict;
-      read_fault = search (rules, t);
-      write_fault = search (rules, t);
-      asked = asked;
-      order = order_stays (Some (trace_command w.verilog.now w.clocks w.image.now w.vcd.now)) old.files mid new (ap (λ (o : Outside). o.image) t.only) c.in_ok-given.ensures.order;
-      too_long = too_long;
-      created = created;
-      begun = begun;
-      reads = search (rules, t);
-      written = search (rules, t);
-      output = output;
-      files = files;
-      files_stay = files_stay;
-      own = search (rules, t);
-      report = on_all (trace_command w.verilog.now w.clocks w.image.now w.vcd.now) old.files (λ f. IsReported e (trace_command w.verilog.now w.clocks w.image.now w.vcd.now) f new.file.bytes old.report new.report) (λ f. ap (λ (o : Outside). o.report) t.only ∙ ap (λ (o : Outside). o.report) c.in_ok-given.ensures.only);
-      report_stays = search (rules, t);
-      notes = on_all (trace_command w.verilog.now w.clocks w.image.now w.vcd.now) old.files (λ f. IsNoted (trace_command w.verilog.now w.clocks w.image.now w.vcd.now) e f old.notes new.notes) (λ f. ap (λ (o : Outside). o.notes) t.only ∙ ap (λ (o : Outside). o.notes) c.in_ok-given.ensures.only);
-      notes_stay = search (rules, t);
+      ends = record {
+        verdict = verdict;
+        read_fault = search (rules, t);
+        write_fault = search (rules, t);
+      };
+      asks = record {
+        asked = asked;
+        order = order_stays (Some (trace_command w.verilog.now w.clocks w.image.now w.vcd.now)) old.files mid new (ap (λ (o : Outside). o.image) t.only) c.in_ok-given.ensures.order;
+        too_long = too_long;
+        reads = search (rules, t);
+      };
+      file = record {
+        created = created;
+        begun = begun;
+        written = search (rules, t);
+        output = output;
+        files = files;
+        files_stay = files_stay;
+        own = search (rules, t);
+      };
+      tells = record {
+        report = on_all (trace_command w.verilog.now w.clocks w.image.now w.vcd.now) old.files (λ f. IsReported e (trace_command w.verilog.now w.clocks w.image.now w.vcd.now) f new.file.bytes old.report new.report) (λ f. ap (λ (o : Outside). o.report) t.only ∙ ap (λ (o : Outside). o.report) c.in_ok-given.ensures.only);
+        report_stays = search (rules, t);
+        notes = on_all (trace_command w.verilog.now w.clocks w.image.now w.vcd.now) old.files (λ f. IsNoted (trace_command w.verilog.now w.clocks w.image.now w.vcd.now) e f old.notes new.notes) (λ f. ap (λ (o : Outside). o.notes) t.only ∙ ap (λ (o : Outside). o.notes) c.in_ok-given.ensures.only);
+        notes_stay = search (rules, t);
+      };
       fault = search (rules, t);
       fault_count = search (rules, t);
     })
