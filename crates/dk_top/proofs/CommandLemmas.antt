@@ -14,11 +14,11 @@ use Rattle.dk_endings.specs.declared.ending.Ending.{Ending}
 use Rattle.dk_endings.specs.declared.ending.Ending.TheVariants as ending
 use Rattle.dk_desk.specs.declared.Stage.{Stage}
 use Rattle.dk_top.specs.Reading.{AreRead, IsRead}
-use Rattle.dk_top.specs.Meaning.{Files, bytes_of, Notes, SecondFile, Creation, created_last, created_streaming, created_before_run, Reporting, silent, reports_text, reports_rewriting, reports_fault, Noting, no_clock, noted_at_done}
+use Rattle.dk_top.specs.Meaning.{Files, bytes_of, Notes, SecondFile, no_second, a_second, Creation, created_last, created_streaming, created_before_run, Reporting, silent, reports_text, reports_rewriting, reports_fault, Noting, no_clock, noted_at_done}
 use Rattle.dk_top.specs.Output.{Terms, eval_terms, OfPair, output_file}
 use Rattle.dk_top.specs.Command.{Command, meaning_of}
 use Rattle.dk_top.specs.Verdict.{OnNamed, OnFiles, IsVerdict}
-use Rattle.dk_top.specs.State.{AsksOnceReady, AsksInOrder, CreatesWhere, CreatesBy, ReadsWhere, ReadsBy, NotesWhere, IsNoted, ReportsWhere, IsReported, LeavesFiles, LeavesNamed, TakesNoMore}
+use Rattle.dk_top.specs.State.{AsksSecond, AsksInOrder, CreatesWhere, CreatesBy, ReadsWhere, ReadsBy, NotesWhere, IsNoted, ReportsWhere, IsReported, LeavesFiles, LeavesNamed, TakesNoMore}
 use Rattle.dk_top.proofs.OutputLemmas.{evaluated_is}
 
 -- what is evaluated is the output file
@@ -43,9 +43,9 @@ read_pair None program image ir rounds Q read made = tt
 read_pair (Some f) program image ir rounds Q read made = made (bytes_of f program) (bytes_of f image) read
 
 -- a line to Fault leaves what was requested
-asked_stays : (second : Option SecondFile) (f : Files) (mid new : Outside) → new.image ≡ mid.image → IfSome second (λ s. AsksOnceReady (s.ready f) mid) → IfSome second (λ s. AsksOnceReady (s.ready f) new)
-asked_stays None f mid new same h = tt
-asked_stays (Some s) f mid new same h = λ asked. h (subst (λ (i : Input). i.stage ≢ Unasked) same asked)
+asked_stays : (second : SecondFile) (f : Files) (mid new : Outside) → new.image ≡ mid.image → AsksSecond second f mid → AsksSecond second f new
+asked_stays no_second f mid new same h = tt
+asked_stays (a_second n ready limited) f mid new same h = λ asked. h (subst (λ (i : Input). i.stage ≢ Unasked) same asked)
 
 -- what holds of all files holds on every desk
 named_all : (name : Option (List ℕ)) (told : Option Files) (P : Files → Type 0) → ((f : Files) → P f) → OnNamed name told P
@@ -75,9 +75,9 @@ words_verdict None files e usage either = tt
 words_verdict (Some c) files e usage (inl is) = absurd (let n : Some c ≡ None = usage is in let x : ⊥ = cc in x)
 words_verdict (Some c) files e usage (inr is) = on_all c files (λ f. IsVerdict c f e) (λ f. subst (λ x. IsVerdict c f x) (sym is) tt)
 
-unasked_order : (second : Option SecondFile) (f : Files) (o : Outside) → o.image.stage ≡ Unasked → IfSome second (λ s. AsksOnceReady (s.ready f) o)
-unasked_order None f o fresh = tt
-unasked_order (Some s) f o fresh = λ asked. absurd (asked fresh)
+unasked_order : (second : SecondFile) (f : Files) (o : Outside) → o.image.stage ≡ Unasked → AsksSecond second f o
+unasked_order no_second f o fresh = tt
+unasked_order (a_second n ready limited) f o fresh = λ asked. absurd (asked fresh)
 
 pub words_order : (command : Option Command) (files : Option Files) (o : Outside) → o.image.stage ≡ Unasked → IfSome command (λ c. OnFiles c files (λ f. AsksInOrder c f o))
 words_order None files o fresh = tt
@@ -155,15 +155,15 @@ memory_both : (limited : Bool) (f : Files) (t n : List ℕ) (i j : Input) → Le
 memory_both true f t n i j = (tt, tt)
 memory_both false f t n i j = tt
 
-usage_left : (name : Option (List ℕ)) (second : Option SecondFile) (f : Files) (i j : Input) → LeavesNamed name second ending.Usage f i j
+usage_left : (name : Option (List ℕ)) (second : SecondFile) (f : Files) (i j : Input) → LeavesNamed name second ending.Usage f i j
 usage_left None second f i j = tt
-usage_left (Some n) None f i j = tt
-usage_left (Some n) (Some s) f i j = usage_both s.limited f n s.name i j
+usage_left (Some n) no_second f i j = tt
+usage_left (Some n) (a_second m ready limited) f i j = usage_both limited f n m i j
 
-memory_left : (name : Option (List ℕ)) (second : Option SecondFile) (f : Files) (i j : Input) → LeavesNamed name second ending.Memory f i j
+memory_left : (name : Option (List ℕ)) (second : SecondFile) (f : Files) (i j : Input) → LeavesNamed name second ending.Memory f i j
 memory_left None second f i j = tt
-memory_left (Some n) None f i j = tt
-memory_left (Some n) (Some s) f i j = memory_both s.limited f n s.name i j
+memory_left (Some n) no_second f i j = tt
+memory_left (Some n) (a_second m ready limited) f i j = memory_both limited f n m i j
 
 pub words_left : (command : Option Command) (files : Option Files) (e : Ending) (i j : Input) → (e ≡ ending.Usage) ⊎ (e ≡ ending.Memory) → IfSome command (λ c. OnFiles c files (λ f. TakesNoMore c e f i j))
 words_left command files e i j either = words_of command files (λ c f x. TakesNoMore c x f i j) (λ c f. usage_left (meaning_of c).program (meaning_of c).second f i j) (λ c f. memory_left (meaning_of c).program (meaning_of c).second f i j) e either

@@ -1,5 +1,5 @@
 -- What a command means: which files it asks for, how it ends by their bytes, and what it leaves. Each command has one such record.
-use Rattle.std.specs.Prelude.{ℕ, Bool, List, Option, None, Some, ⊤, unwrap_or}
+use Rattle.std.specs.Prelude.{ℕ, Bool, List, [], Option, None, Some, ⊤, unwrap_or}
 use Rattle.source_fault.specs.declared.fault.SourceFault.{SourceFault}
 use Rattle.source_fault.specs.declared.widen.WidenFault.{WidenFault}
 use Rattle.stimulus.specs.declared.stop.Stop.{Stop}
@@ -47,11 +47,15 @@ IsAnswered answers ending.Usage = ⊥
 IsAnswered answers ending.ReadFault = ⊤
 IsAnswered answers ending.Memory = ⊤
 
--- A second file: its name, what holds of the first one where it is asked for, and whether its length has a limit.
-pub record SecondFile : Type 1 where
-  pub name : List ℕ
-  pub ready : Files → Type 0
-  pub limited : Bool
+-- The second file of a command: none, or one of this name, with what holds of the first file where it is asked for, and whether its length has a limit.
+pub data SecondFile : Type 1 where
+  no_second : SecondFile
+  a_second : (name : List ℕ) → (ready : Files → Type 0) → (limited : Bool) → SecondFile
+
+-- its name
+abbrev pub second_name : SecondFile → Option (List ℕ)
+second_name no_second = None
+second_name (a_second name ready limited) = Some name
 
 -- When File is created: after all is judged; by `run`, of these files at this age, once the first header of its images is in order; or by `trace`, before the run that may stop.
 pub data Creation : Type 0 where
@@ -79,7 +83,7 @@ pub data Noting : Type 1 where
 pub record Meaning : Type 1 where
   -- the names under which it asks for its text, for a second file, and for File
   pub program : Option (List ℕ)
-  pub second : Option SecondFile
+  pub second : SecondFile
   pub out : Option (List ℕ)
   -- how it ends, and what it leaves
   pub answers : Files → Answers
@@ -92,7 +96,7 @@ pub record Meaning : Type 1 where
 abbrev pub of_text : (name : List ℕ) → (answers : List ℕ → Answers) → Meaning
 of_text name answers = record {
   program = Some name;
-  second = None;
+  second = no_second;
   out = None;
   answers = λ files. answers (bytes_of files name);
   creation = created_last;
@@ -105,7 +109,7 @@ of_text name answers = record {
 abbrev pub of_both : (name second : List ℕ) → (limited : Bool) → (ready : List ℕ → Type 0) → (answers : (text file : List ℕ) → Answers) → Meaning
 of_both name second limited ready answers = record {
   program = Some name;
-  second = Some (record { name = second; ready = λ files. ready (bytes_of files name); limited = limited });
+  second = a_second second (λ files. ready (bytes_of files name)) limited;
   out = None;
   answers = λ files. answers (bytes_of files name) (bytes_of files second);
   creation = created_last;

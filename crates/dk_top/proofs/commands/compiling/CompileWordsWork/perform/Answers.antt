@@ -4,9 +4,46 @@ use Rattle.dk_endings.specs.declared.ending.Ending.TheVariants as ending
 use Rattle.dk_top.specs.Command.{compile as compile_command}
 use Rattle.dk_top.specs.Performing.{PerformsWork, HasStored}
 use Rattle.dk_top.specs.Texts.{IsPrefix}
-use Rattle.dk_top.proofs.EndingLemmas.{at_fault}
+use Rattle.dk_top.proofs.EndingLemmas.{at_error, at_fault}
 use Rattle.dk_top.proofs.CompileLemmas.{text_stored, block_low}
 use Rattle.dk_top.proofs.commands.compiling.CompileWordsWork.perform.Goals as goal
+
+pub returns-in_err-text : goal.returns-in_err-text
+returns-in_err-text g c =
+    let w = c.args.self.now in
+    let old : Outside = g.D.Desk.outside c.args.desk.now in
+    let new : Outside = g.D.Desk.outside c.read_with.new.desk in
+    at_error (λ e. PerformsWork (compile_command w.program.now w.out.now w.enable w.age w.block) e old new) c.from_residual.result c.in_err-text.field-0.0 c.from_residual.ensures.1 (record {
+      taken = search rules;
+      ends = record {
+        verdict = search rules;
+        read_fault = search rules;
+        write_fault = search rules;
+      };
+      asks = record {
+        asked = search rules;
+        order = search rules;
+        too_long = search rules;
+        reads = search rules;
+      };
+      file = record {
+        created = search rules;
+        begun = search rules;
+        written = search rules;
+        output = search rules;
+        files = search rules;
+        files_stay = search rules;
+        own = search rules;
+      };
+      tells = record {
+        report = search rules;
+        report_stays = search rules;
+        notes = search rules;
+        notes_stay = search rules;
+      };
+      fault = search rules;
+      fault_count = search rules;
+    })
 
 pub returns-in_err-write_file : goal.returns-in_err-write_file
 returns-in_err-write_file g c =
@@ -18,8 +55,17 @@ returns-in_err-write_file g c =
     (subst (λ bytes. IfSome new.file.bytes (λ written. IsPrefix written bytes)) c.deref.ensures.value (c.in_err-write_file.ensures.prefix opened)) in
     at_fault (λ e. PerformsWork (compile_command w.program.now w.out.now w.enable w.age w.block) e old new) c.from_residual-in_err-write_file.result c.in_err-write_file.field-0.0 c.from_residual-in_err-write_file.ensures.1 c.in_err-write_file.ensures.fault (record {
       taken = search rules;
-      ends = search rules;
-      asks = search rules;
+      ends = record {
+        verdict = search rules;
+        read_fault = search rules;
+        write_fault = search rules;
+      };
+      asks = record {
+        asked = search rules;
+        order = search rules;
+        too_long = search rules;
+        reads = search rules;
+      };
       file = record {
         created = search rules;
         begun = search rules;
@@ -29,7 +75,12 @@ returns-in_err-write_file g c =
         files_stay = search rules;
         own = search rules;
       };
-      tells = search rules;
+      tells = record {
+        report = search rules;
+        report_stays = search rules;
+        notes = search rules;
+        notes_stay = search rules;
+      };
       fault = search rules;
       fault_count = search rules;
     })
@@ -44,8 +95,17 @@ returns g c =
     (subst (λ bytes. IfSome new.file.bytes (λ written. written ≡ bytes)) c.deref.ensures.value c.in_ok-write_file.ensures.whole) in
     record {
       taken = search rules;
-      ends = search rules;
-      asks = search rules;
+      ends = record {
+        verdict = search rules;
+        read_fault = search rules;
+        write_fault = search rules;
+      };
+      asks = record {
+        asked = search rules;
+        order = search rules;
+        too_long = search rules;
+        reads = search rules;
+      };
       file = record {
         created = search rules;
         begun = search rules;
@@ -55,7 +115,12 @@ returns g c =
         files_stay = search rules;
         own = search rules;
       };
-      tells = search rules;
+      tells = record {
+        report = search rules;
+        report_stays = search rules;
+        notes = search rules;
+        notes_stay = search rules;
+      };
       fault = search rules;
       fault_count = search rules;
     }

@@ -23,9 +23,26 @@ returns-in_err-write_report g c =
     (subst (λ r. ReportsFront c.deref.result.now r new.report) before c.in_err-write_report.ensures.front)) in
     at_fault (λ e. PerformsWork (nets_command w.program.now w.enable w.age w.block) e old new) c.from_residual-in_err-write_report.result c.in_err-write_report.field-0.0 c.from_residual-in_err-write_report.ensures.1 c.in_err-write_report.ensures.fault (record {
       taken = search rules;
-      ends = search rules;
-      asks = search rules;
-      file = search rules;
+      ends = record {
+        verdict = search rules;
+        read_fault = search rules;
+        write_fault = search rules;
+      };
+      asks = record {
+        asked = search rules;
+        order = search rules;
+        too_long = search rules;
+        reads = search rules;
+      };
+      file = record {
+        created = search rules;
+        begun = search rules;
+        written = search rules;
+        output = search rules;
+        files = search rules;
+        files_stay = search rules;
+        own = search rules;
+      };
       tells = record {
         report = report;
         report_stays = search rules;
@@ -49,9 +66,26 @@ returns g c =
     (subst (λ r. IsIfTold new.report (grown r c.deref.result.now)) before c.in_ok-write_report.ensures.whole)) in
     record {
       taken = search rules;
-      ends = search rules;
-      asks = search rules;
-      file = search rules;
+      ends = record {
+        verdict = search rules;
+        read_fault = search rules;
+        write_fault = search rules;
+      };
+      asks = record {
+        asked = search rules;
+        order = search rules;
+        too_long = search rules;
+        reads = search rules;
+      };
+      file = record {
+        created = search rules;
+        begun = search rules;
+        written = search rules;
+        output = search rules;
+        files = search rules;
+        files_stay = search rules;
+        own = search rules;
+      };
       tells = record {
         report = report;
         report_stays = search rules;
