@@ -22,8 +22,8 @@ pub(crate) struct Body {
     pub(crate) levels: u32,
     // Whether it tests if a point is in the frame.
     pub(crate) tests_frame: bool,
-    // Whether it is whole because a piece has no name.
-    pub(crate) is_unnamed: bool,
+    // Whether a piece has no name.
+    is_unnamed: bool,
 }
 
 // The limit that no body passes.
@@ -181,7 +181,6 @@ pub(crate) fn cut_body<'a>(
     expanded: &'a Expanded,
     limit: u32,
 ) -> Result<Body, OutOfMemory> {
-    let mut is_unnamed = false;
     let written = levels_of(names.program, levels, &expanded.written).unwrap_or(0);
     if limit < written || has_divided(limit, &expanded.written) {
         let mut pieces = Pieces::new(alloc, names, levels, stem, limit);
@@ -190,12 +189,8 @@ pub(crate) fn cut_body<'a>(
         if !cut.is_unnamed {
             return Ok(cut);
         }
-        is_unnamed = true;
     }
     let uncut = Pieces::new(alloc, names, levels, stem, NO_LIMIT);
     let whole = made(alloc, uncut, &expanded.written)?;
-    Ok(Body {
-        is_unnamed,
-        ..whole
-    })
+    Ok(whole)
 }

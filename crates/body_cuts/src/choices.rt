@@ -12,8 +12,6 @@ use std::alloc::Global;
 pub(crate) struct CutChoice {
     // Whether its body is never cut: it is inline and no output, or must stay whole.
     stays_whole: bool,
-    // Whether it must stay whole.
-    pub(crate) is_refused: bool,
     // The levels of its body, not cut.
     depth: u32,
     pub(crate) is_cut: bool,
@@ -43,7 +41,6 @@ fn keep_whole(program: &TypedProgram, whole: &[u32], choices: &mut [CutChoice]) 
     for image in whole {
         if let Some(choice) = choice_of(program, *image, choices) {
             choice.stays_whole = true;
-            choice.is_refused = true;
         }
     }
 }
@@ -58,7 +55,6 @@ pub(crate) fn no_cuts(
     for definition in program.definitions() {
         choices.push(CutChoice {
             stays_whole: definition.inline,
-            is_refused: false,
             depth: 0,
             is_cut: false,
         })?;

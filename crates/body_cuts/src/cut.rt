@@ -4,7 +4,6 @@ use crate::choices::{CutChoice, cut_each, deepest, no_cuts, note_depths};
 use crate::draft::{CutDraft, make_draft, program_text};
 use crate::expanded::{Expanded, expanded_bodies};
 use crate::names::{NamedProgram, names_of};
-use crate::uncut::UncutBody;
 use dk_base::{MAX_DEFINITIONS, OutOfMemory};
 use dk_types::TypedProgram;
 use std::alloc::Global;
@@ -51,13 +50,6 @@ fn best_draft(
     deepest_first(alloc, names, &expanded, &mut choices, most)
 }
 
-/// A program whose bodies are cut, as a text, and the definitions of more levels that were not cut.
-#[derive(Drop)]
-pub struct CutProgram {
-    pub text: Vec<u8>,
-    pub uncut: Vec<UncutBody>,
-}
-
 /// The program as a text of bodies with at most this many levels of operators, after `head`. 0 levels count as 1. An operator of more levels, as `abs`, is alone in its body. If there would be too many definitions, only the deepest bodies are cut. The bodies of the images in `whole`, by their numbers, are not cut.
 ///
 /// No contract states what the text shows.
@@ -67,12 +59,9 @@ pub fn cut_program(
     program: &TypedProgram,
     levels: u32,
     whole: &[u32],
-) -> Result<CutProgram, OutOfMemory> {
+) -> Result<Vec<u8>, OutOfMemory> {
     let names = names_of(alloc, program)?;
     let best = best_draft(alloc, &names, whole, levels.max(1))?;
     let text = program_text(alloc, head, &names, &best)?;
-    Ok(CutProgram {
-        text,
-        uncut: best.uncut,
-    })
+    Ok(text)
 }

@@ -7,7 +7,6 @@ use crate::images::image_name;
 use crate::names::NamedProgram;
 use crate::pieces::BodyPiece;
 use crate::text::GrowingText;
-use crate::uncut::{UncutBody, note_uncut};
 use dk_base::{FrameSize, MAX_DEFINITIONS, OutOfMemory};
 use dk_types::{TypedDefinition, TypedProgram};
 use std::alloc::Global;
@@ -22,8 +21,6 @@ pub(crate) struct CutDraft {
     pub(crate) levels: Vec<u32>,
     // The most levels that were asked.
     most: u32,
-    // The definitions whose bodies have more levels and were not cut.
-    pub(crate) uncut: Vec<UncutBody>,
     // Whether a body tests if a point is in the frame.
     tests_frame: bool,
 }
@@ -106,9 +103,6 @@ fn push_definition(
     let stem = definition.name.text.as_bytes();
     let limit = limit(choice, draft.most);
     let body = cut_body(alloc, names, &draft.levels, stem, expanded, limit)?;
-    if draft.most < body.levels {
-        note_uncut(alloc, &mut draft.uncut, stem, choice, body.is_unnamed)?;
-    }
     push_pieces(&mut draft.text, &body.pieces);
     push_opening(&mut draft.text, definition);
     push_body(&mut draft.text, &body.text);
@@ -130,7 +124,6 @@ pub(crate) fn make_draft(
         definitions: 0,
         levels: Vec::new(alloc),
         most,
-        uncut: Vec::new(alloc),
         tests_frame: false,
     };
     let bodies = names.program.definitions().iter().zip(expanded);

@@ -16,8 +16,6 @@ mod product;
 mod reached;
 mod repeats;
 mod text;
-mod uncut;
 
-pub use cut::{CutProgram, cut_program};
+pub use cut::cut_program;
 pub use head::head_of;
-pub use uncut::{Reason, UncutBody};

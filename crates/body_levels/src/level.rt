@@ -14,7 +14,7 @@ use crate::operators::{
 use pointwise_ir::{Edge, Expr, Program};
 
 // A clamped read with an offset chooses among the taps of its image.
-fn choice(edge: Edge, dx: i32, dy: i32) -> u32
+pub(crate) fn choice(edge: Edge, dx: i32, dy: i32) -> u32
     ensures is { result ≡ levels.choice edge dx dy }
     ensures most { result ≤ 1 }
 {
@@ -45,7 +45,7 @@ fn is_constant_power(e: &Expr) -> bool
 }
 
 // Whether an operand is a power of two that the program writes.
-fn has_power(left: &Expr, right: &Expr) -> bool
+pub(crate) fn has_power(left: &Expr, right: &Expr) -> bool
     ensures { result ≡ levels.has_power (tree_of left.now) (tree_of right.now) }
 {
     is_constant_power(left) || is_constant_power(right)
@@ -61,14 +61,14 @@ fn above(more: u32, below: Option<u32>) -> Option<u32>
     Some(more + below)
 }
 
-fn greater(a: u32, b: u32) -> u32
+pub(crate) fn greater(a: u32, b: u32) -> u32
     ensures { result ≡ max a b }
 {
     a.max(b)
 }
 
 // The more levels of two parts.
-fn deeper(a: Option<u32>, b: Option<u32>) -> Option<u32>
+pub(crate) fn deeper(a: Option<u32>, b: Option<u32>) -> Option<u32>
     ensures { result ≡ levels.deeper a b }
 {
     match a {
@@ -89,7 +89,7 @@ fn moved(edge: Edge, dx: i32, dy: i32, body: Option<u32>) -> Option<u32>
 }
 
 // The levels of an expression; None if it has no read.
-fn level(e: &Expr) -> Option<u32>
+pub(crate) fn level(e: &Expr) -> Option<u32>
     requires shallow { depth_of (tree_of e.now) ≤ MAX_INLINED_DEPTH }
     ensures is { result ≡ levels.level (tree_of e.now) }
     ensures most { IfSome result (λ n. n ≤ 2 * depth_of (tree_of e.now)) }
@@ -132,32 +132,4 @@ pub fn greatest_level(program: &Program) -> u32
         most = greater(most, level_at(program, k));
     }
     most
-}
-
-// Whether a moved part of the expression, with the choice of its move, has more than `most` levels.
-fn moves_deep(e: &Expr, most: u32) -> bool
-    requires shallow { depth_of (tree_of e.now) ≤ MAX_INLINED_DEPTH }
-{
-    match e {
-        Expr::Constant(_, _) | Expr::Read(_, _, _, _) => false,
-        Expr::Shifted(_, _, _, _) => match level(e) {
-            Some(levels) => most < levels,
-            None => false,
-        },
-        Expr::Unary(_, operand) => moves_deep(operand, most),
-        Expr::Binary(_, left, right) => moves_deep(left, most) || moves_deep(right, most),
-        Expr::Select(condition, left, right) => {
-            moves_deep(condition, most) || moves_deep(left, most) || moves_deep(right, most)
-        }
-        Expr::Convert(_, operand, _) => moves_deep(operand, most),
-        Expr::Scale(_, operand, _) => moves_deep(operand, most),
-    }
-}
-
-/// Whether the body of the k-th image that is no input has the body of an inline image, read at an offset or not, that has more than `most` levels by itself. It is for a report, and no contract states when it is so.
-pub fn has_deep_move(program: &Program, k: usize, most: u32) -> bool
-    requires there { k < length program.now.images }
-{
-    program.law();
-    moves_deep(&program.images()[k].body, most)
 }

@@ -11,7 +11,6 @@ pub mod Searches
 pub mod Sweeps
 pub mod Decided
 pub mod Listed
-pub mod Measured
 pub mod Stenciled
 pub mod AtAge
 pub mod Errors

@@ -1,16 +1,15 @@
 -- Programs whose bodies are cut: what must stay, and what is measured.
-use Rattle.std.specs.Prelude.{◌≡◌, ◌⊎◌, ℕ, ◌<◌, ◌≤◌, max, ℤ, List, filter, length, map, slice_get, slice_index}
+use Rattle.std.specs.Prelude.{◌≡◌, ◌⊎◌, ℕ, ◌<◌, ◌≤◌, max, ℤ, List, length, map, slice_get, slice_index}
 use Rattle.dk_base.specs.Frames.{Picture}
 use Rattle.dk_types.specs.Typed.{Typing, types_of}
 pub use Rattle.same_phases.specs.Phases.{IsRound, output_picture}
-use Rattle.pointwise_ir.specs.declared.program.Definition.{Definition}
 use Rattle.pointwise_ir.specs.Programs.{Program, bodies_of}
 use Rattle.dk_inline.specs.Answers.{image_names, IsInlining}
 use Rattle.dk_compile.specs.Sources.{IsText, IsAccepted}
 use Rattle.body_levels.specs.Levels.{greatest_level}
-use Rattle.body_levels.specs.Deep.{is_deep, IsShallower}
+use Rattle.body_levels.specs.Deep.{IsShallower}
+use Rattle.body_levels.specs.Reasons.{deep_bodies}
 use Rattle.dk_compile.specs.declared.measures.Measures.{Measures}
-use Rattle.dk_compile.specs.declared.measures.DeepBody.{DeepBody}
 
 -- The new program has the old one's size, its inputs and outputs with their names and types, and on each round the same picture of each output.
 pub record ShowSamePictures (old new : Typing) : Type 0 where
@@ -36,17 +35,13 @@ pub record IsInlinedText (text : List ℕ) (form : Program) : Type 0 where
   pub is_text : IsText text program
   pub inlined : IsInlining program form
 
--- the names of the images whose bodies have more than `most` levels, in order
-abbrev pub deep_names : (most : ℕ) → Program → List (List ℕ)
-deep_names most p = map (λ (d : Definition). d.name) (filter (is_deep most) p.images)
-
--- What is counted of a text: its definitions, the most levels of operators of a body, and by name, in order, the definitions of more than `most` levels.
+-- What is counted of a text: its definitions, the most levels of operators of a body, and by name, in order, the definitions of more than `most` levels, each with the reason.
 pub record HasMeasures (text : List ℕ) (most : ℕ) (m : Measures) : Type 0 where
   pub form : Program
   pub is_form : IsInlinedText text form
   pub definitions : m.definitions ≡ length form.images
   pub levels : m.levels ≡ greatest_level (bodies_of form)
-  pub deep : map (λ (b : DeepBody). b.name) m.deep.items ≡ deep_names most form
+  pub deep : m.deep.items ≡ deep_bodies most form
 
 -- The text is what a source is cut to, where its bodies are to have at most `most` levels. It shows the same pictures, and has no more levels than these or than the source has. It is the source where that has no more levels than these, and where no body would have fewer.
 pub record IsCutOf (source : List ℕ) (most : ℕ) (text : List ℕ) : Type 0 where

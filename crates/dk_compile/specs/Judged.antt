@@ -39,4 +39,4 @@ pub record IsDeepSource (source : List ℕ) (old : PlannedProgram) (inlined : Pr
 -- a text that the source is cut to, with the program that it has with its inline images substituted
 abbrev pub IsOutcome : (source : List ℕ) → (levels : ℕ) → Outcome → Type 0
 IsOutcome source levels (Cut chosen) = IsCutOf source levels chosen.text.items × IsInlinedText chosen.text.items chosen.form
-IsOutcome source levels (Whole uncut) = ⊤
+IsOutcome source levels Whole = ⊤

@@ -1,8 +1,8 @@
 -- The lines that report a text that was cut, narrowed or widened.
 use Rattle.std.specs.Prelude.{◌≡◌, ◌≤◌, ℕ, ◌==◌, if◌then◌else◌, List, [], ◌++◌, length, flat_map, codes, decimal}
-use Rattle.body_cuts.specs.declared.uncut.Reason.{Reason}
-use Rattle.body_cuts.specs.declared.uncut.Reason.TheVariants.{Operator, Limit, Name, Moved}
-use Rattle.dk_compile.specs.declared.measures.DeepBody.{DeepBody}
+use Rattle.body_levels.specs.declared.reasons.Reason.{Reason}
+use Rattle.body_levels.specs.declared.reasons.Reason.TheVariants.{Operator, Name, Limit, Moved, Unconfirmed}
+use Rattle.body_levels.specs.declared.reasons.DeepBody.{DeepBody}
 use Rattle.dk_compile.specs.declared.measures.Measures.{Measures}
 use Rattle.dk_compile.specs.declared.widening.WideMeasures.{WideMeasures}
 use Rattle.value_ranges.specs.declared.wider.WiderImage.{WiderImage}
@@ -15,9 +15,10 @@ use Rattle.dk_compile.specs.Widened.{HasWideMeasures}
 -- why a body has more levels than was asked
 abbrev pub reason_word : Reason → List ℕ
 reason_word Operator = codes "operator"
-reason_word Limit = codes "limit"
 reason_word Name = codes "name"
+reason_word Limit = codes "limit"
 reason_word Moved = codes "moved"
+reason_word Unconfirmed = codes "unconfirmed"
 
 -- a definition's name and the reason
 abbrev pub deep_words : DeepBody → List ℕ

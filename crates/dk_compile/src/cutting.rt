@@ -13,7 +13,7 @@ ghost use Rattle.dk_compile.specs.Judged.{HasForm, IsJudged, IsDeepSource, IsOut
 use crate::measures::{Measures, measures_of};
 use crate::reading::inlined;
 use crate::{PlannedProgram, SourceError, front, one_at_age_law, planned};
-use body_cuts::{CutProgram, UncutBody, cut_program, head_of};
+use body_cuts::{cut_program, head_of};
 use body_levels::{greatest_level, is_shallower};
 use dk_base::{MAX_DEFINITIONS, OutOfMemory};
 use dk_types::TypedProgram;
@@ -51,12 +51,11 @@ fn judged(alloc: Global, old: &Program, text: &[u8]) -> Result<Judgement, OutOfM
     }
 }
 
-// A text that was chosen, the program that it has with its inline images substituted, and the bodies that were not cut.
+// A text that was chosen, and the program that it has with its inline images substituted.
 #[derive(Drop)]
 struct Chosen {
     text: Vec<u8>,
     form: Program,
-    uncut: Vec<UncutBody>,
 }
 
 // A source with its program and its plan, its program with its inline images substituted, and the levels that its bodies are to have.
@@ -68,11 +67,11 @@ struct Source<'a> {
     levels: u8,
 }
 
-// What a source is cut to, if to anything; else the bodies that were not cut.
+// What a source is cut to, if to anything.
 #[derive(Drop)]
 enum Outcome {
     Cut(Chosen),
-    Whole(Vec<UncutBody>),
+    Whole,
 }
 
 // Whether the program has no more levels than the old one or than `most`, no body with more, and one above `most` with fewer.
@@ -90,24 +89,20 @@ fn improves(old: &Program, new: &Program, most: u32) -> bool
 fn improved(
     alloc: Global,
     source: &Source<'_>,
-    cut: CutProgram,
+    text: Vec<u8>,
     program: &TypedProgram,
 ) -> Result<Outcome, OutOfMemory>
     requires source { IsDeepSource source.now.text.now source.now.old.now source.now.form.now source.now.levels }
-    requires keeps { KeepsPictures source.now.text.now cut.text.items }
-    requires program { IsAccepted cut.text.items (typing_of program.now) }
+    requires keeps { KeepsPictures source.now.text.now text.items }
+    requires program { IsAccepted text.items (typing_of program.now) }
     ensures { IfOk result (IsOutcome source.now.text.now source.now.levels) }
 {
     let after = inlined(alloc, program)?;
     let most = u32::from(source.levels);
     if !improves(source.form, &after, most) {
-        return Ok(Outcome::Whole(cut.uncut));
+        return Ok(Outcome::Whole);
     }
-    Ok(Outcome::Cut(Chosen {
-        text: cut.text,
-        form: after,
-        uncut: cut.uncut,
-    }))
+    Ok(Outcome::Cut(Chosen { text, form: after }))
 }
 
 // What the source is cut to, by one proposal after another. A body that the check refuses stays whole.
@@ -116,7 +111,6 @@ fn proposed(alloc: Global, source: &Source<'_>) -> Result<Outcome, OutOfMemory>
     ensures { IfOk result (IsOutcome source.now.text.now source.now.levels) }
 {
     let mut whole = Vec::new(alloc);
-    let mut uncut = Vec::new(alloc);
     for _ in 0..=MAX_DEFINITIONS {
         let most = u32::from(source.levels);
         let cut = cut_program(
@@ -126,19 +120,18 @@ fn proposed(alloc: Global, source: &Source<'_>) -> Result<Outcome, OutOfMemory>
             most,
             &whole,
         )?;
-        match judged(alloc, &source.old.ir, &cut.text)? {
+        match judged(alloc, &source.old.ir, &cut)? {
             Judgement::Same(program) => return improved(alloc, source, cut, &program),
             Judgement::OtherImage(image) => {
                 if whole.contains(&image) {
-                    return Ok(Outcome::Whole(cut.uncut));
+                    return Ok(Outcome::Whole);
                 }
                 whole.push(image)?;
-                uncut = cut.uncut;
             }
-            Judgement::Refused => return Ok(Outcome::Whole(cut.uncut)),
+            Judgement::Refused => return Ok(Outcome::Whole),
         }
     }
-    Ok(Outcome::Whole(uncut))
+    Ok(Outcome::Whole)
 }
 
 // What the source is cut to: the cut text where that has fewer levels, else the source.
@@ -154,7 +147,6 @@ fn cut_to(
     ensures form { IfOk result (λ c. IsInlinedText c.text.items c.form) }
 {
     let form = inlined(alloc, &old.program)?;
-    let mut uncut = Vec::new(alloc);
     if u32::from(levels) < greatest_level(&form) {
         let from = Source {
             text: source,
@@ -164,11 +156,11 @@ fn cut_to(
         };
         match proposed(alloc, &from)? {
             Outcome::Cut(chosen) => return Ok(chosen),
-            Outcome::Whole(bodies) => uncut = bodies,
+            Outcome::Whole => {}
         }
     }
     let text = Vec::from_slice(alloc, source)?;
-    Ok(Chosen { text, form, uncut })
+    Ok(Chosen { text, form })
 }
 
 /// A text whose program shows the pictures of the source's program, with bodies of at most `levels` levels of operators as far as they can be cut and the limits of a program allow; or the first fault of the source, as for `compile` at age 0. Its bodies have no more levels than `levels` or than those of the source. It is the source as it is where that has no more levels than `levels`, and where the cut program does not pass its check or has no body of fewer levels.
@@ -181,7 +173,7 @@ pub fn cut(alloc: Global, source: &[u8], levels: u8) -> Result<CutText, SourceEr
     one_at_age_law();
     let old = planned(alloc, source, 0)?;
     let chosen = cut_to(alloc, source, &old, levels)?;
-    let measures = measures_of(alloc, &chosen.form, u32::from(levels), &chosen.uncut)?;
+    let measures = measures_of(alloc, &chosen.form, u32::from(levels))?;
     Ok(CutText {
         text: chosen.text,
         measures,

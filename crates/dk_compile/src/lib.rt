@@ -16,13 +16,13 @@ mod reporting;
 mod widening;
 
 pub use accepted::Front;
-pub use body_cuts::Reason;
+pub use body_levels::{DeepBody, Reason};
 pub use compiling::{Compiled, PlannedProgram, compile, compile_with, planned};
 pub use cutting::{CutText, cut};
 pub use fault::SourceError;
 pub use judging::{first_fault, is_one_port};
 pub use laws::{correct_law, drive_shows_law, one_at_age_law, one_source_law};
-pub use measures::{DeepBody, Measures};
+pub use measures::Measures;
 pub use narrow_lines::push_wider;
 pub use narrowing::{NarrowText, narrow};
 pub use options::Options;

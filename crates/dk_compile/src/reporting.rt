@@ -40,9 +40,10 @@ fn reason_word(reason: Reason) -> &'static [u8]
 {
     match reason {
         Reason::Operator => b"operator".as_slice(),
-        Reason::Limit => b"limit".as_slice(),
         Reason::Name => b"name".as_slice(),
+        Reason::Limit => b"limit".as_slice(),
         Reason::Moved => b"moved".as_slice(),
+        Reason::Unconfirmed => b"unconfirmed".as_slice(),
     }
 }
 

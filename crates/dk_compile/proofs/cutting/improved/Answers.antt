@@ -12,4 +12,4 @@ returns c =
     let after = c.in_ok-after.after in
     let below : greatest_level (bodies_of after) ≤ max source.levels (greatest_level (bodies_of source.form.now)) = search rules in
     let fewer : IsShallower source.levels source.form.now after = search rules in
-    improved_of source.text.now c.args.cut.text.items source.old.now (typing_of c.args.program.now) source.levels source.form.now after c.requires.source c.requires.keeps c.requires.program c.in_ok-after.ensures below fewer
+    improved_of source.text.now c.args.text.items source.old.now (typing_of c.args.program.now) source.levels source.form.now after c.requires.source c.requires.keeps c.requires.program c.in_ok-after.ensures below fewer

@@ -11,11 +11,11 @@ improved-requires-clause-keeps c =
     let old = source.old.now in
     let shown = c.deref-in-loop.result.now in
     let judged = subst (λ (j : Judgement). IsJudged old.ir shown j) c.in-Same.is c.in_ok-program.ensures in
-    kept_by source.text.now c.in_ok-cut.cut.text.items shown (typing_of old.program) (typing_of c.in-Same.program) old.ir c.requires.source.has judged c.deref-in-loop.ensures.value
+    kept_by source.text.now c.in_ok-cut.cut.items shown (typing_of old.program) (typing_of c.in-Same.program) old.ir c.requires.source.has judged c.deref-in-loop.ensures.value
 
 pub improved-requires-clause-program : goal.improved-requires-clause-program
 improved-requires-clause-program c =
     let old = c.args.source.now.old.now in
     let shown = c.deref-in-loop.result.now in
     let judged = subst (λ (j : Judgement). IsJudged old.ir shown j) c.in-Same.is c.in_ok-program.ensures in
-    accepted_by c.in_ok-cut.cut.text.items shown (typing_of c.in-Same.program) old.ir judged c.deref-in-loop.ensures.value
+    accepted_by c.in_ok-cut.cut.items shown (typing_of c.in-Same.program) old.ir judged c.deref-in-loop.ensures.value
