@@ -160,10 +160,7 @@ fn note_deep(
     if !is_deep(program, k, most) {
         return Ok(());
     }
-    let name = Text::new(Vec::from_slice(
-        alloc,
-        program.images()[k].name.as_bytes(),
-    )?);
+    let name = Text::new(Vec::from_slice(alloc, program.images()[k].name.as_bytes())?);
     let reason = reason_at(program, k, most, is_limit);
     deep.push(DeepBody { name, reason })?;
     Ok(())

@@ -19,11 +19,7 @@ pub struct Measures {
 }
 
 // What a text of this form has.
-pub(crate) fn measures_of(
-    alloc: Global,
-    form: &Program,
-    most: u32,
-) -> Result<Measures, OutOfMemory>
+pub(crate) fn measures_of(alloc: Global, form: &Program, most: u32) -> Result<Measures, OutOfMemory>
     requires most { most ≤ 255 }
     ensures definitions { IfOk result (λ m. m.definitions ≡ length form.now.images) }
     ensures levels { IfOk result (λ m. m.levels ≡ greatest_of (bodies_of form.now)) }
