@@ -64,13 +64,10 @@ fn greatest_own(e: &Expr) -> Option<u32>
             binary_levels(*op, has_power(left, right)),
             deeper(greatest_own(left), greatest_own(right)),
         ),
-        Expr::Select(condition, left, right) => at_least(
-            select_levels(),
-            deeper(
-                greatest_own(condition),
-                deeper(greatest_own(left), greatest_own(right)),
-            ),
-        ),
+        Expr::Select(condition, left, right) => {
+            let branches = deeper(greatest_own(left), greatest_own(right));
+            at_least(select_levels(), deeper(greatest_own(condition), branches))
+        }
         Expr::Convert(how, operand, _) => at_least(conversion_levels(*how), greatest_own(operand)),
         Expr::Scale(op, operand, by) => at_least(scaling_levels(*op, *by), greatest_own(operand)),
     }
@@ -97,8 +94,8 @@ fn has_deep_move(e: &Expr, most: u32) -> bool
         Expr::Unary(_, operand) => has_deep_move(operand, most),
         Expr::Binary(_, left, right) => has_deep_move(left, most) || has_deep_move(right, most),
         Expr::Select(condition, left, right) => {
-            has_deep_move(condition, most)
-                || (has_deep_move(left, most) || has_deep_move(right, most))
+            let branches = has_deep_move(left, most) || has_deep_move(right, most);
+            has_deep_move(condition, most) || branches
         }
         Expr::Convert(_, operand, _) => has_deep_move(operand, most),
         Expr::Scale(_, operand, _) => has_deep_move(operand, most),

@@ -130,17 +130,11 @@ fn cutting(e: &Expr, most: u32) -> CutCount
             cutting(left, most),
             cutting(right, most),
         ),
-        Expr::Select(condition, left, right) => triple(
-            most,
-            select_levels(),
-            cutting(condition, most),
-            double(
-                most,
-                select_levels(),
-                cutting(left, most),
-                cutting(right, most),
-            ),
-        ),
+        Expr::Select(condition, left, right) => {
+            let own = select_levels();
+            let values = double(most, own, cutting(left, most), cutting(right, most));
+            triple(most, own, cutting(condition, most), values)
+        }
         Expr::Convert(how, operand, _) => {
             under(most, conversion_levels(*how), cutting(operand, most))
         }

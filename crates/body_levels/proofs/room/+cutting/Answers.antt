@@ -1,6 +1,6 @@
-use Rattle.std.proofs.Common.{◌≡◌, ◌∙◌, ℕ, Bool, ap, sym, subst}
+use Rattle.std.proofs.Common.{◌≡◌, ◌∙◌, Bool, ap, sym, subst}
 use Rattle.pointwise_ir.specs.declared.expr.Expr.{Expr}
-use Rattle.pointwise_ir.specs.Trees.{Tree, tree_of}
+use Rattle.pointwise_ir.specs.Trees.{tree_of}
 use Rattle.body_levels.specs.Operators.{binary_levels}
 use Rattle.body_levels.specs.Levels.{has_power}
 use Rattle.body_levels.specs.Reasons as reasons
@@ -21,6 +21,6 @@ returns-in-Binary t c =
 
 pub returns-in-Select : goal.returns-in-Select
 returns-in-Select t c =
-    let have = c.triple.ensures _ _ c.cutting-in-Select.ensures (c.double-in-Select.ensures _ _ c.cutting-in-Select-2.ensures c.cutting-in-Select-3.ensures) in
+    let have = c.triple.ensures _ _ c.cutting-in-Select-3.ensures (c.double-values.ensures _ _ c.cutting-in-Select.ensures c.cutting-in-Select-2.ensures) in
     subst (λ (e : Expr). IsCount c.triple.result (reasons.cutting c.args.most (tree_of e))) (sym c.in-Select.is)
-    (of_triple c.args.most _ _ c.triple.result _ _ _ _ _ _ c.select_levels.ensures.value c.select_levels-in-Select.ensures.value (ap (λ (e : Expr). tree_of e) c.deref-in-Select.ensures) (ap (λ (e : Expr). tree_of e) c.deref-in-Select-2.ensures) (ap (λ (e : Expr). tree_of e) c.deref-in-Select-3.ensures) have)
+    (of_triple c.args.most _ _ c.triple.result _ _ _ _ _ _ c.select_levels-own.ensures.value c.select_levels-own.ensures.value (ap (λ (e : Expr). tree_of e) c.deref-in-Select-3.ensures) (ap (λ (e : Expr). tree_of e) c.deref-in-Select.ensures) (ap (λ (e : Expr). tree_of e) c.deref-in-Select-2.ensures) have)

@@ -1,10 +1,10 @@
-use Rattle.std.proofs.Common.{◌≡◌, ℕ, ◌+◌, ◌<◌, ◌∙◌, min, pos, length, take, ap, sym, subst}
+use Rattle.std.proofs.Common.{ℕ, ◌+◌, ◌<◌, ◌∙◌, min, pos, length, ap, sym, subst}
 use Rattle.std.proofs.Math.ListN.{length-map}
 use Rattle.std.proofs.lemmas.List.Sums.{fold_more}
 use Rattle.dk_base.specs.declared.ty.Ty.TheVariants.{Unsigned}
 use Rattle.pointwise_ir.specs.Trees.{Tree, constant, tree_of}
 use Rattle.pointwise_ir.specs.Programs.{bodies_of}
-use Rattle.body_levels.specs.Reasons.{cutting, pieces_of}
+use Rattle.body_levels.specs.Reasons.{cutting}
 use Rattle.body_levels.proofs.room.all_pieces.Goals as goal
 
 pub loop-k-preserved : goal.loop-k-preserved
