@@ -557,7 +557,7 @@ def cut(program: Program, levels: int) -> Cut:
     text, answer = _rewrite(program, "cut", _number("levels", levels, 1, 64))
     first, _, second = answer.partition(b"\n")
     definitions, most = _figures("cut: definitions ([0-9]+) levels ([0-9]+)", first)
-    _figures(rf"(?:cut: over {levels}:(?: \w+ (?:operator|limit|name|moved))+)?", second)
+    _figures(rf"(?:cut: over {levels}:(?: \w+ (?:operator|name|limit|moved|unconfirmed))+)?", second)
     words = second.decode("ascii").split()[3:]
     return Cut(text, program.width, program.height, _ports(program.inputs), _ports(program.outputs),
                files=_files(program), definitions=definitions, levels=most, over=tuple(zip(words[::2], words[1::2])))

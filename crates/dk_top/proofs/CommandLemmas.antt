@@ -156,12 +156,12 @@ memory_both true f t n i j = (tt, tt)
 memory_both false f t n i j = tt
 
 usage_left : (name : Option (List ℕ)) (second : SecondFile) (f : Files) (i j : Input) → LeavesNamed name second ending.Usage f i j
-usage_left None second f i j = tt
+usage_left None _ f i j = tt
 usage_left (Some n) no_second f i j = tt
 usage_left (Some n) (a_second m ready limited) f i j = usage_both limited f n m i j
 
 memory_left : (name : Option (List ℕ)) (second : SecondFile) (f : Files) (i j : Input) → LeavesNamed name second ending.Memory f i j
-memory_left None second f i j = tt
+memory_left None _ f i j = tt
 memory_left (Some n) no_second f i j = tt
 memory_left (Some n) (a_second m ready limited) f i j = memory_both limited f n m i j
 

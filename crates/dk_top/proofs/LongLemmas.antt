@@ -1,5 +1,5 @@
 -- What is left of a file that is too long.
-use Rattle.std.proofs.Common.{◌≡◌, ◌⊎◌, inl, inr, ℕ, ◌<◌, ◌≤◌, false, List, length, Option, None, Some, IfSome, Result, Ok, Err, IfErr, refl, sym, ap, subst, arith}
+use Rattle.std.proofs.Common.{◌≡◌, ◌⊎◌, ℕ, ◌<◌, ◌≤◌, false, List, length, Option, None, Some, IfSome, Result, Ok, Err, IfErr, refl, ap, subst, arith}
 use Rattle.dk_base.specs.declared.TheConstants.{MAX_SOURCE_BYTES, MAX_VERILOG_BYTES}
 use Rattle.dk_desk.specs.Outside.{Input}
 use Rattle.dk_compile.specs.declared.compiling.Compiled.{Compiled}
@@ -14,16 +14,13 @@ use Rattle.dk_endings.specs.declared.ending.ReportFault.TheVariants as report
 use Rattle.dk_endings.specs.declared.verilog.VerilogFault.{VerilogFault}
 use Rattle.dk_endings.specs.declared.verilog.VerilogFault.TheVariants as verilog
 use Rattle.dk_top.specs.Compiling.{IsCompiledFrom}
-use Rattle.dk_top.specs.Verdict.{OnFiles}
 use Rattle.dk_words.specs.declared.command.Rewriting.{Rewriting}
 use Rattle.dk_words.specs.declared.command.Rewriting.TheVariants.{Cut, Narrow, Widen}
-use Rattle.dk_top.specs.Command.{Command, run, eval, compile, sim, trace, plan, check, make, rewrite, explain, nets}
-use Rattle.dk_top.specs.State.{LeavesText, LeavesImages, LeavesBoth, TakesNoMore}
+use Rattle.dk_top.specs.State.{LeavesText, LeavesImages, LeavesBoth}
 use Rattle.dk_top.specs.Reading.{Stops, IsJudgement, IsSourceEnding, TellsNoText, TellsNoImages, IsRewriteEnding}
 use Rattle.dk_top.specs.Simulating.{IsModuleEnding}
 use Rattle.dk_top.specs.Meaning.{Files, bytes_of}
 use Rattle.dk_top.specs.Streaming.{IsRunAnswer}
-use Rattle.dk_top.proofs.CommandLemmas.{on_all}
 use Rattle.dk_top.proofs.CompileLemmas.{PlannedAccepted, compiled_accepted}
 
 -- an ending that reports no text leaves any text

@@ -8,7 +8,7 @@ use Rattle.made_program.specs.Programs.{program_of}
 use Rattle.dk_top.specs.Simulation.{drive_of}
 use Rattle.dk_top.proofs.CommandLemmas.{on_each}
 use Rattle.dk_top.specs.Tracing.{trace_drive}
-use Rattle.dk_top.specs.Verdict.{OnFiles, IsJudged, IsVerdict, AreAlike, HasOneVerdict, IsGood, IsOrMemory, EndsWell}
+use Rattle.dk_top.specs.Verdict.{OnFiles, IsJudged, IsVerdict, AreAlike, HasOneVerdict, IsGood, EndsWell}
 use Rattle.dk_top.specs.Meaning.{Files, bytes_of}
 use Rattle.dk_top.specs.Output.{eval_terms, run_terms, IsAnswer}
 use Rattle.dk_top.specs.Streaming.{IsRunAnswer}
