@@ -1,7 +1,7 @@
 """The commands of `dk` as methods of a program. compiler.py does the work, and its docstrings have the details."""
 from __future__ import annotations
 
-from typing import TYPE_CHECKING
+from typing import TYPE_CHECKING, Mapping
 
 if TYPE_CHECKING:
     from . import compiler
@@ -47,14 +47,14 @@ class Commands:
         return compiler.explain(self)
 
     def compile(self: compiler.Program, path: AnyPath | None = None, *, enable: bool = False, age: int = 0,
-                block: int | None = None) -> str:
+                block: int | None = None, module: str | None = None, ports: Mapping[str, str] | None = None) -> str:
         """The Verilog text, which is also written to `path`.
 
         `enable` adds a clock enable. With `age=1` each read is at least one clock old. `block=32` fits arrays of 32 words
-        or more to block memory.
+        or more to block memory. `module="blur", ports={"a": "pixel_in"}` names the module and its ports.
         """
         from . import compiler
-        return compiler.compile(self, path, enable=enable, age=age, block=block)
+        return compiler.compile(self, path, enable=enable, age=age, block=block, module=module, ports=ports)
 
     def draw(self: compiler.Program, path: AnyPath | None = None, *, age: int = 0) -> str:
         """The plan as SVG: line buffers as bars, live reads as arrows. It is also written to `path`."""

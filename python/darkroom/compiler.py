@@ -17,6 +17,7 @@ from dataclasses import dataclass, field, replace
 from pathlib import Path
 from typing import Callable, Iterator, Mapping, Protocol, Sequence, SupportsIndex
 
+from . import naming
 from .commands import Commands
 from .files import AnyPath, save
 from .pictures import Array, PgmError, Pictures, decode_rounds, encode_rounds, gather
@@ -478,10 +479,11 @@ def nets(program: Program, enable: bool = False, age: int = 0, block: int | None
 
 
 def compile(program: Program, path: AnyPath | None = None, enable: bool = False, age: int = 0,
-            block: int | None = None) -> str:
+            block: int | None = None, module: str | None = None, ports: Mapping[str, str] | None = None) -> str:
     """The Verilog text of the program, which is also written to `path` if that is given.
 
     `enable` adds a clock enable, `age` is 0 to 64 clocks, `block` fits arrays of this many words or more to block memory.
+    `module` and `ports` give names (naming.py), below a comment of the ports. Without them the text is as `dk` printed it.
     The file is written beside and renamed. Raises ValueError if `path` is a file that the program was made from, and
     OSError if it cannot be written.
     """
@@ -489,6 +491,9 @@ def compile(program: Program, path: AnyPath | None = None, enable: bool = False,
     if path is not None:
         _refuse_input(program, path)
     content = _need(program, "compile", *options, "PROG", "/dev/stdout")
+    if module is not None or ports:
+        latencies = plan(program, age).latencies
+        content = naming.named(program, content.decode("ascii"), latencies, module, ports or {}).encode("ascii")
     if path is not None:
         save(path, content)
     return content.decode("ascii")
